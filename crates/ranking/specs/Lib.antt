@@ -1,0 +1,11 @@
+-- The ranking of the pages. Read Outranks and Defaults; what is proved of them stands in the others.
+--     Outranks   which of two pages outranks the other
+--     Defaults   the default priorities, by their formula
+--     Order      the ranking is an order: the theory's three laws
+--     Key        one number that orders as the ranking does
+--     Different  no two default priorities are equal; the entries that document 01 names
+pub mod Outranks
+pub mod Defaults
+pub mod Order
+pub mod Key
+pub mod Different
