@@ -289,3 +289,10 @@ module _ (g f : Pages) where
     where
       fewer : None (without g f) n → ⊥
       fewer none = omega (arith, count-mono g f n (λ q l a. without-none q (none q l) a))
+
+-- ---- all pages
+
+pub count-all : (n : ℕ) → count (λ q. true) n ≡ n
+unfolding count
+count-all zero = refl
+count-all (suc n) = omega (arith, count-all n)

@@ -12,7 +12,7 @@ use Rattle.paging.specs.Layers.{Layered}
 use Rattle.paging.specs.Victim.{cached-to, full, reach, lowest-to, victim}
 use Rattle.paging.specs.Tests.{isnt, and-in, and-left, and-right, positive}
 use Rattle.paging.specs.Count.{count-same}
-use Rattle.paging.specs.Words.{first-is, lowest-found}
+use Rattle.paging.specs.Words.{first-some, first-is, lowest-found}
 use Rattle.paging.specs.Moves.{bar, bar-zero, bar-pos}
 use Rattle.paging.specs.Certificate.{upto, upto-in, upto-member, upto-layer, held, Justified}
 use Rattle.paging.specs.Update.{no-zero, Evicts, some-victim}
@@ -179,3 +179,15 @@ victim-evicts N k p o L M k-pos ord lay pN just v e =
     let f = victim-found N k p o L M k-pos ord lay pN just in
     let same = Option·some-injective (f .page) v (sym (f .is) ∙ e) in
     (f .J, subst (λ (x : ℕ). Evicts N k p L o M (f .J) x) same (f .evicts))
+
+-- what the search for j finds
+pub reach-some :
+    (N k : ℕ) (L : ℕ → ℕ) (M : Pages) (i j : ℕ) →
+    Path (Option ℕ) (reach N k L M i) (some j) →
+    (i ≤ j) × (count (cached-to L M j) N ≡ j)
+unfolding reach full
+reach-some N k L M i j e =
+    let f = first-some (suc k) (λ j. leb i j && eqb (count (cached-to L M j) N) j) j e in (
+      leb-true i j (and-left (leb i j) (eqb (count (cached-to L M j) N) j) (f .member)),
+      eqb-true (count (cached-to L M j) N) j (and-right (leb i j) (eqb (count (cached-to L M j) N) j) (f .member)),
+    )

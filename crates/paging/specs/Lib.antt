@@ -11,7 +11,8 @@
 -- Then what proves them. Facts about words:
 --     Tests         Booleans and comparisons
 --     Count         sizes of sets
---     Words         each, any, first, lowest, listed, table, only
+--     Words         each, any, first, lowest, only
+--     Tables        lists and tables of values, entry by entry
 -- about layers:
 --     Moves         a request's move as one law, and that layers stay layered
 --     LayerSets     the layers after a request, set by set
@@ -40,6 +41,7 @@ pub mod Best
 pub mod Tests
 pub mod Count
 pub mod Words
+pub mod Tables
 pub mod Moves
 pub mod LayerSets
 pub mod Certificate

@@ -1,15 +1,15 @@
--- What the words of `Sets` say, as facts: each, any, first, lowest, listed, table, only. Assumes nothing.
+-- What the words of `Sets` say, as facts: each, any, first, lowest, only. Assumes nothing.
 use mathlib.Core.Bool.{Bool, true, false, cond, _&&_, _||_}
-use mathlib.Core.List.{List, [], _∷_, _++_}
+use mathlib.Core.List.{List, [], _∷_}
 use mathlib.Core.Logic.{⊎-elim}
 use mathlib.Core.Option.{Option, none, some, Option·none-ne-some, Option·some-ne-none, Option·some-injective}
 use mathlib.Core.Path.{Path, _≡_, refl, ap, _∙_}
 use Prim.Native.Nat.{ℕ, zero, suc, _-_, _≤_, _<_, zero-le}
 use native.Mathlib.Omega.{arith}
 use lib.Dec.{eqb}
-use lib.ListN.{getD, drop, replicate}
+use lib.ListN.{getD, drop}
 use borrow.Author.Tests.{eqb-true, eq-eqb}
-use Rattle.paging.specs.Sets.{Pages, _∈_, _⇒_, each, any, or-else, first, lowest, listed, table, only}
+use Rattle.paging.specs.Sets.{Pages, _∈_, _⇒_, each, any, or-else, first, lowest, only}
 use Rattle.paging.specs.Ranking.{Ranking}
 use Rattle.paging.specs.Tests.{clash, isnt, and-in, and-left, and-right, or-left, or-right, or-cases, implies-true}
 use Rattle.paging.specs.Tests.{implies-in, same-or-not, le-or-lt}
@@ -61,32 +61,6 @@ only-in x (suc n) [] h = refl
 only-in x zero (y ∷ ys) h =
     and-in (eqb y x) (only x ys) (eq-eqb y x (h 0 zero-le)) (only-in x zero ys (λ q l. h (suc q) zero-le))
 only-in x (suc n) (y ∷ ys) h = only-in x n ys (λ q l. h (suc q) (omega arith))
-
--- the entries of a table
-pub listed-at : (n : ℕ) (f : ℕ → ℕ) (m d q : ℕ) → q < n → getD (listed n f ++ replicate m d) q d ≡ f q
-unfolding listed
-listed-at zero f m d q l = absurd (omega arith)
-listed-at (suc n) f m d zero l = refl
-listed-at (suc n) f m d (suc q) l = listed-at n (λ i. f (suc i)) m d q (omega arith)
-
-replicate-at : (m d q : ℕ) → getD (replicate m d) q d ≡ d
-replicate-at zero d q = refl
-replicate-at (suc m) d zero = refl
-replicate-at (suc m) d (suc q) = replicate-at m d q
-
-listed-past : (n : ℕ) (f : ℕ → ℕ) (m d q : ℕ) → n ≤ q → getD (listed n f ++ replicate m d) q d ≡ d
-unfolding listed
-listed-past zero f m d q l = replicate-at m d q
-listed-past (suc n) f m d zero l = absurd (omega arith)
-listed-past (suc n) f m d (suc q) l = listed-past n (λ i. f (suc i)) m d q (omega arith)
-
-pub table-at : (size n d : ℕ) (f : ℕ → ℕ) (q : ℕ) → q < n → getD (table size n d f) q d ≡ f q
-unfolding table
-table-at size n d f q l = listed-at n f (size - n) d q l
-
-pub table-past : (size n d : ℕ) (f : ℕ → ℕ) (q : ℕ) → n ≤ q → getD (table size n d f) q d ≡ d
-unfolding table
-table-past size n d f q l = listed-past n f (size - n) d q l
 
 -- the first member
 pub record IsFirst (n : ℕ) (f : ℕ → Bool) (i : ℕ) : Type 0 where

@@ -1,0 +1,3 @@
+-- The tables of a start. Read Begin; what callers want to know of its words stands in Laws. Assumes nothing.
+pub mod Begin
+pub mod Laws

@@ -1,0 +1,2 @@
+-- What the proofs of this crate share: a turn of each loop. Assumes nothing.
+pub mod Loops

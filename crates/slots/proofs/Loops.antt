@@ -1,0 +1,115 @@
+-- What one turn of a loop over slots or layers does to what its invariant says. Assumes nothing.
+use mathlib.Core.Bool.{Bool, true, false, _&&_}
+use mathlib.Core.List.{List}
+use mathlib.Core.Logic.{⊎-elim}
+use mathlib.Core.Option.{Option, none, some}
+use mathlib.Core.Path.{Path, _≡_, refl, sym, ap, _∙_}
+use Prim.Native.Nat.{ℕ, _+_, min, _≤_, _<_}
+use native.Mathlib.Numerals.{add-one}
+use native.Mathlib.Omega.{arith}
+use lib.ListN.{length, getD, set, List·getD-eq-default}
+use borrow.Author.Count.{below-more}
+use borrow.Author.Tests.{eqb-true, eq-eqb, ne-eqb, le-leb, lt-leb}
+use Rattle.paging.specs.Sets.{_=?_, _≤?_, if_then_else_, bit, count, first}
+use Rattle.paging.specs.Tests.{clash, isnt, and-in, and-right, le-or-lt}
+use Rattle.paging.specs.Words.{first-some, first-is}
+use Rattle.ranking.specs.Key.{key-of}
+use Rattle.slots.specs.declared.Found.the-variants.{At, Nowhere}
+use Rattle.slots.specs.Slots.{no-page, seat, found, near-of, keys-of, near-to, least-key}
+use Rattle.slots.specs.Laws.{near-most}
+use Rattle.paging.specs.Tables.{entry-any, table-more}
+
+-- ---- a search: nothing below i is what is looked for
+
+abbrev pub Passed : (ℕ → Bool) → ℕ → Type 0
+Passed f i = (j : ℕ) → j < i → f j ≡ false
+
+pub found-here : (n : ℕ) (f : ℕ → Bool) (i : ℕ) → i < n → Passed f i → f i ≡ true → At i ≡ found (first n f)
+found-here n f i l passed e =
+    ap found (sym (first-is n f i (record { below = l; member = e; none-before = passed })))
+
+pub found-none : (n : ℕ) (f : ℕ → Bool) (i : ℕ) → n ≤ i → Passed f i → Nowhere ≡ found (first n f)
+found-none n f i l passed = go (first n f) refl
+  where
+    go : (x : Option ℕ) → Path (Option ℕ) (first n f) x → Nowhere ≡ found (first n f)
+    go none e = ap found (sym e)
+    go (some j) e =
+        let w = first-some n f j e in
+        absurd (clash (w .member) (passed j (omega (arith, w .below))))
+
+-- what `reach` looks for: from i on, j slots with a page of a layer up to j
+abbrev pub full : List ℕ → ℕ → ℕ → ℕ → Bool
+full near k i j = i ≤? j && near-to near k j =? j
+
+pub full-before : (near : List ℕ) (k i : ℕ) → Passed (full near k i) i
+full-before near k i j l = rw (lt-leb i j l)
+
+pub full-here : (near : List ℕ) (k i j n : ℕ) → i ≤ j → n ≡ near-to near k j → n ≡ j → full near k i j ≡ true
+full-here near k i j n l e h = and-in (i ≤? j) (near-to near k j =? j) (le-leb i j l) (eq-eqb (near-to near k j) j (sym e ∙ h))
+
+pub full-not : (near : List ℕ) (k i j n : ℕ) → n ≡ near-to near k j → (n ≡ j → ⊥) → full near k i j ≡ false
+full-not near k i j n e h =
+    isnt (full near k i j) (λ t. h (e ∙ eqb-true (near-to near k j) j (and-right (i ≤? j) (near-to near k j =? j) t)))
+
+-- ---- reads
+
+-- a slot that holds a page is a slot of the list
+pub record PageAt (h : List ℕ) (s : ℕ) : Type 0 where
+  pub same : getD h s 0 ≡ getD h s no-page
+  pub page : getD h s no-page < 1024
+
+pub page-read : (h : List ℕ) (s : ℕ) → getD h s no-page < 1024 → PageAt h s
+page-read h s l =
+    record { same = ⊎-elim past (λ i. entry-any h s 0 no-page i) (le-or-lt (length h) s); page = l }
+  where
+    past : length h ≤ s → getD h s 0 ≡ getD h s no-page
+    past o = absurd (omega (arith, List·getD-eq-default h no-page {n = s} o))
+
+-- what `find` looks for: a slot that holds q
+unfoldable pub holds : List ℕ → ℕ → ℕ → Bool
+holds h q s = getD h s no-page =? q
+
+module _ (h : List ℕ) (q s : ℕ) (passed : Passed (holds h q) s) where
+  pub slot-here : (k : ℕ) → s < k → s < length h → getD h s 0 ≡ q → At s ≡ found (seat h k q)
+  unfolding seat holds
+  slot-here k l i e = found-here k (holds h q) s l passed (eq-eqb (getD h s no-page) q (entry-any h s no-page 0 i ∙ e))
+
+  pub slot-none : (k : ℕ) → k ≤ s → Nowhere ≡ found (seat h k q)
+  unfolding seat holds
+  slot-none k l = found-none k (holds h q) s l passed
+
+  pub slot-next : s < length h → (getD h s 0 ≡ q → ⊥) → Passed (holds h q) (s + 1)
+  unfolding holds
+  slot-next i ne =
+      below-more _ s passed (ne-eqb (getD h s no-page) q (λ e. ne (entry-any h s 0 no-page i ∙ e)))
+
+-- ---- one slot more
+
+pub near-next :
+    (layer h near : List ℕ) (s p : ℕ) → s < 64 → p ≡ getD h s no-page → near ≡ near-of layer h s →
+    set near s (getD layer p 0) ≡ near-of layer h (s + 1)
+unfolding near-of
+near-next layer h near s p l ep en = rw (add-one s, en, ep) (table-more 64 s 0 (λ s. getD layer (getD h s no-page) 0) l)
+
+pub keys-next :
+    (priority h keys : List ℕ) (s p r : ℕ) → s < 64 → p ≡ getD h s no-page → r ≡ key-of (getD priority p 0) p →
+    keys ≡ keys-of priority h s → set keys s r ≡ keys-of priority h (s + 1)
+unfolding keys-of
+keys-next priority h keys s p r l ep er ek =
+    rw (add-one s, ek, er, ep)
+    (table-more 64 s 0 (λ s. key-of (getD priority (getD h s no-page) 0) (getD h s no-page)) l)
+
+pub count-next :
+    (near : List ℕ) (j s n r : ℕ) → n ≡ near-to near s j → r ≡ bit (getD near s 0 ≤? j) → n + r ≡ near-to near (s + 1) j
+unfolding near-to count
+count-next near j s n r e er = rw (add-one s) (omega arith)
+
+pub count-most :
+    (near : List ℕ) (j s n r : ℕ) → n ≡ near-to near s j → r ≡ bit (getD near s 0 ≤? j) → n + r ≤ s + 1
+count-most near j s n r e er = omega (arith, near-most near (s + 1) j, count-next near j s n r e er)
+
+pub least-next :
+    (near keys : List ℕ) (j s m p r : ℕ) → m ≡ least-key near keys j s →
+    p ≡ (if getD near s 0 ≤? j then getD keys s 0 else 4294967295) → r ≡ min m p → r ≡ least-key near keys j (s + 1)
+unfolding least-key
+least-next near keys j s m p r em ep er = rw (add-one s, er, em, ep)

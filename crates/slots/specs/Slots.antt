@@ -1,0 +1,41 @@
+-- The slots: entry s of a list h is the page in slot s. By slots also the layer and the key of the page in each. Assumes nothing.
+use mathlib.Core.List.{List}
+use mathlib.Core.Option.{Option, none, some}
+use Prim.Native.Nat.{ℕ, zero, suc, min}
+use lib.ListN.{getD}
+use Rattle.paging.specs.Sets.{_=?_, _≤?_, if_then_else_, Pages, count, any, first, table}
+use Rattle.ranking.specs.Key.{key-of}
+use Rattle.slots.specs.declared.Found.{Found}
+use Rattle.slots.specs.declared.Found.the-variants.{At, Nowhere}
+
+-- What stands in a slot that holds no page.
+abbrev pub no-page : ℕ
+no-page = 65535
+
+-- A page is cached if a slot below k holds it;
+unfoldable pub seated : List ℕ → ℕ → Pages
+seated h k q = any k (λ s. getD h s no-page =? q)
+
+-- its slot is the first that does.
+unfoldable pub seat : List ℕ → ℕ → ℕ → Option ℕ
+seat h k q = first k (λ s. getD h s no-page =? q)
+
+abbrev pub found : Option ℕ → Found
+found (some s) = At s
+found none = Nowhere
+
+-- The layer of the page in each of the first k slots, and its key.
+unfoldable pub near-of : List ℕ → List ℕ → ℕ → List ℕ
+near-of layer h k = table 64 k 0 (λ s. getD layer (getD h s no-page) 0)
+
+unfoldable pub keys-of : List ℕ → List ℕ → ℕ → List ℕ
+keys-of priority h k = table 64 k 0 (λ s. key-of (getD priority (getD h s no-page) 0) (getD h s no-page))
+
+-- How many of the first k slots hold a page of a layer up to j.
+unfoldable pub near-to : List ℕ → ℕ → ℕ → ℕ
+near-to near k j = count (λ s. getD near s 0 ≤? j) k
+
+-- The least key of the first n slots that hold a page of a layer up to j; the greatest number there is, if there is none.
+unfoldable pub least-key : List ℕ → List ℕ → ℕ → ℕ → ℕ
+least-key near keys j zero = 4294967295
+least-key near keys j (suc n) = min (least-key near keys j n) (if getD near n 0 ≤? j then getD keys n 0 else 4294967295)

@@ -1,0 +1,133 @@
+// The slots of a run: where a page is, and the searches of a miss over the layers and keys of the pages in them. Assumes nothing.
+ghost use mathlib.Core.Path.{_≡_};
+ghost use mathlib.Core.Bool.{_&&_};
+ghost use Prim.Native.Nat.{ℕ, suc, _<_, _≤_, _-_, _%_, min};
+ghost use lib.ListN.{getD};
+ghost use Rattle.paging.specs.Sets.{first, bit, if_then_else_, _=?_, _≤?_};
+ghost use Rattle.slots.specs.Slots.{no-page, seat, found, near-of, keys-of, near-to, least-key};
+
+// A number that a search found, or that there is none.
+pub enum Found {
+    At(usize),
+    Nowhere,
+}
+
+// The slot of a page.
+pub fn find(held: &[u16; 64], slots: usize, page: u16) -> Found
+    requires { ⌜ slots ≤ 64 ⌝ }
+    ensures { λ r. ⌜ r ≡ found (seat (now (held .entry)) slots page) ⌝ }
+{
+    // A slice knows its length: a slot below 64 is an entry of the list.
+    let entries: &[u16] = held;
+    let mut s = 0;
+    while s < slots {
+        if entries[s] == page {
+            return Found::At(s);
+        }
+        s += 1;
+    }
+    Found::Nowhere
+}
+
+// By slots, the layer of the page in each.
+pub fn nears<'a>(layer: &'a [u8; 1024], held: &'a [u16; 64], slots: usize) -> [u8; 64]
+    requires { ⌜ (slots ≤ 64) × ((s : ℕ) → s < slots → getD (now held) s no-page < 1024) ⌝ }
+    ensures { λ r. ⌜ r ≡ near-of (now (layer .entry)) (now (held .entry)) slots ⌝ }
+{
+    let mut near = [0u8; 64];
+    let mut s = 0;
+    while s < slots {
+        near[s] = layer[held[s] as usize];
+        s += 1;
+    }
+    near
+}
+
+// By slots, the key of the page in each.
+pub fn keys<'a>(priority: &'a [u16; 1024], held: &'a [u16; 64], slots: usize) -> [u32; 64]
+    requires { ⌜ (slots ≤ 64) × ((s : ℕ) → s < slots → getD (now held) s no-page < 1024) ⌝ }
+    ensures { λ r. ⌜ r ≡ keys-of (now (priority .entry)) (now (held .entry)) slots ⌝ }
+{
+    let mut keys = [0u32; 64];
+    let mut s = 0;
+    while s < slots {
+        let page = held[s];
+        keys[s] = ranking::key(priority[page as usize], page);
+        s += 1;
+    }
+    keys
+}
+
+// 1 for a layer up to j, else 0.
+fn within(near: u8, j: u8) -> usize
+    ensures { λ r. ⌜ r ≡ bit (near ≤? j) ⌝ }
+{
+    if near <= j { 1 } else { 0 }
+}
+
+// How many of the first slots hold a page of a layer up to j.
+pub fn count_to(near: &[u8; 64], slots: usize, j: u8) -> usize
+    requires { ⌜ slots ≤ 64 ⌝ }
+    ensures { λ r. ⌜ r ≡ near-to (now (near .entry)) slots j ⌝ }
+{
+    let mut n = 0;
+    let mut s = 0;
+    while s < slots {
+        n += within(near[s], j);
+        s += 1;
+    }
+    n
+}
+
+// The smallest j from `from` on, and at most `slots`, such that j slots hold a page of a layer up to j.
+pub fn reach(near: &[u8; 64], slots: u8, from: u8) -> Found
+    requires { ⌜ slots ≤ 64 ⌝ }
+    ensures { λ r. ⌜ r ≡ found (first (suc slots) (λ j. from ≤? j && near-to (now (near .entry)) slots j =? j)) ⌝ }
+{
+    let mut j = from;
+    let full = loop {
+        if slots < j {
+            return Found::Nowhere;
+        }
+        if count_to(near, slots as usize, j) == j as usize {
+            break j;
+        }
+        j += 1;
+    };
+    Found::At(full as usize)
+}
+
+// The smaller of two numbers.
+pub fn smaller(a: u32, b: u32) -> u32
+    ensures { λ r. ⌜ r ≡ min a b ⌝ }
+{
+    if b < a { b } else { a }
+}
+
+// The key of a page of a layer up to j; of any other the greatest number there is.
+fn pick(near: u8, j: u8, key: u32) -> u32
+    ensures { λ r. ⌜ r ≡ (if near ≤? j then key else 4294967295) ⌝ }
+{
+    if near <= j { key } else { 4294967295 }
+}
+
+// The least key of the slots that hold a page of a layer up to j.
+pub fn lowest<'a>(near: &'a [u8; 64], keys: &'a [u32; 64], slots: usize, j: u8) -> u32
+    requires { ⌜ slots ≤ 64 ⌝ }
+    ensures { λ r. ⌜ r ≡ least-key (now (near .entry)) (now (keys .entry)) j slots ⌝ }
+{
+    let mut least: u32 = 4294967295;
+    let mut s = 0;
+    while s < slots {
+        least = smaller(least, pick(near[s], j, keys[s]));
+        s += 1;
+    }
+    least
+}
+
+// The page of a key.
+pub fn page_of(key: u32) -> u16
+    ensures { λ r. ⌜ r ≡ 65535 - key % 65536 ⌝ }
+{
+    (65535 - key % 65536) as u16
+}
