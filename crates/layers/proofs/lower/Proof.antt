@@ -9,10 +9,10 @@ sub-result : tie.Need-sub-result
 sub-result c = search needs
 
 returns : tie.Need-returns
-returns c = sym (lowered-down _ _ (c .if1 .taken))
+returns c = sym (lowered-down _ _ (search needs))
 
 returns-2 : tie.Need-returns-2
-returns-2 c = sym (lowered-same _ _ (c .if1 .left))
+returns-2 c = sym (lowered-same _ _ (search needs))
 
 pub lower-spec : {M : Type 1} → statement M
 lower-spec = tie.close (tie.spec sub-result returns returns-2)

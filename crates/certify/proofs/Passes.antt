@@ -1,0 +1,70 @@
+-- Tests that a loop or a row of early exits makes one by one: what holds after each, and what one that fails says. Assumes nothing.
+use mathlib.Core.Bool.{Bool, true, false, not, _&&_, _||_}
+use mathlib.Core.List.{List}
+use mathlib.Core.Path.{_≡_, refl, sym, _∙_}
+use Prim.Native.Nat.{ℕ, _+_, _≤_, _<_}
+use native.Mathlib.Numerals.{add-one}
+use native.Mathlib.Omega.{arith}
+use lib.Dec.{eqb, leb, ltb}
+use lib.ListN.{getD}
+use borrow.Author.Tests.{le-leb, lt-leb, not-true, not-false}
+use Rattle.paging.specs.Sets.{each}
+use Rattle.paging.specs.Tests.{clash, isnt, and-in}
+use Rattle.paging.specs.Words.{each-true}
+use Rattle.ranking.specs.Key.{key-of}
+use Rattle.slots.specs.Slots.{near-to}
+
+-- ---- each number below i has passed
+
+pub record Passed (f : ℕ → Bool) (i : ℕ) : Type 0 where
+  pub all : each i f ≡ true
+
+pub passed-none : (f : ℕ → Bool) → Passed f 0
+unfolding each
+passed-none f = record { all = refl }
+
+pub passed-more : {f : ℕ → Bool} {i : ℕ} → Passed f i → f i ≡ true → Passed f (i + 1)
+unfolding each
+passed-more {f} {i} p e = record { all = rw (add-one i) (and-in (each i f) (f i) (p .all) e) }
+
+pub passed-all : {f : ℕ → Bool} {i n : ℕ} → Passed f i → i ≤ n → n ≤ i → true ≡ each n f
+passed-all {f} {i} {n} p a b = let e : n ≡ i = omega arith in rw e (sym (p .all))
+
+pub failed : (f : ℕ → Bool) (i n : ℕ) → i < n → f i ≡ false → false ≡ each n f
+failed f i n l e = sym (isnt (each n f) (λ t. clash (each-true n f t i l) e))
+
+-- what `has_room` tests of a layer
+abbrev pub roomy : List ℕ → ℕ → ℕ → Bool
+roomy near k j = leb (near-to near k j) j
+
+pub is-roomy : (near : List ℕ) (k j n : ℕ) → n ≡ near-to near k j → n ≤ j → roomy near k j ≡ true
+is-roomy near k j n e l = le-leb (near-to near k j) j (omega arith)
+
+pub not-roomy : (near : List ℕ) (k j n : ℕ) → n ≡ near-to near k j → j < n → roomy near k j ≡ false
+not-roomy near k j n e l = lt-leb (near-to near k j) j (omega arith)
+
+-- what `none_late` tests of a page
+abbrev pub timely : List Bool → List ℕ → List ℕ → List ℕ → ℕ → Bool
+timely marks layer priority bars q =
+    getD marks q false || eqb (getD layer q 0) 0 || ltb (key-of (getD priority q 0) q) (getD bars (getD layer q 0) 0)
+
+pub timely-is :
+    (marks : List Bool) (layer priority bars : List ℕ) (q key : ℕ) (r : Bool) →
+    key ≡ key-of (getD priority q 0) q →
+    r ≡ (getD marks q false || eqb (getD layer q 0) 0 || ltb key (getD bars (getD layer q 0) 0)) →
+    timely marks layer priority bars q ≡ r
+timely-is marks layer priority bars q key r ek er = sym (rw ek at er)
+
+-- ---- parts of a test, made one by one
+
+pub refused : (r a : Bool) → r ≡ a → not r ≡ true → false ≡ a
+refused r a e h = sym (not-true r h) ∙ e
+
+pub granted : (r a : Bool) → r ≡ a → not r ≡ false → true ≡ a
+granted r a e h = sym (not-false r h) ∙ e
+
+pub stop-left : (a b : Bool) → false ≡ a → false ≡ a && b
+stop-left a b e = rw (sym e)
+
+pub go-on : (r a b : Bool) → true ≡ a → r ≡ b → r ≡ a && b
+go-on r a b e h = rw (sym e) h

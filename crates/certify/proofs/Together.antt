@@ -1,0 +1,78 @@
+-- The parts of the test put together: the certificate over the tables that the code makes, and all clauses. Assumes nothing.
+use mathlib.Core.Bool.{Bool, true, false, not, _||_}
+use mathlib.Core.List.{List}
+use mathlib.Core.Path.{_≡_, sym, ap, _∙_}
+use Prim.Native.Nat.{ℕ, suc, _≤_, _<_}
+use native.Mathlib.Omega.{arith}
+use lib.Dec.{eqb, ltb}
+use lib.ListN.{getD}
+use Rattle.paging.specs.Sets.{each, table}
+use Rattle.paging.specs.Tests.{clash, isnt, same-test}
+use Rattle.paging.specs.Words.{each-true, each-in}
+use Rattle.paging.specs.Tables.{table-at}
+use Rattle.ranking.specs.Key.{key-of}
+use Rattle.slots.specs.Slots.{seated, near-of, keys-of}
+use Rattle.certify.specs.Test.{room, bar-key, none-late, certificate}
+use Rattle.certify.specs.Tables.{tables-sound}
+use Rattle.certify.specs.Laws.{Parts, sound-parts}
+use Rattle.certify.proofs.Passes.{refused, granted, stop-left, go-on, timely}
+
+-- ---- the certificate
+
+each-same : (n : ℕ) (f g : ℕ → Bool) → ((q : ℕ) → q < n → f q ≡ g q) → each n f ≡ each n g
+each-same n f g h =
+    same-test
+    (each n f)
+    (each n g)
+    (λ e. each-in n g (λ q l. sym (h q l) ∙ each-true n f e q l))
+    (λ e. each-in n f (λ q l. h q l ∙ each-true n g e q l))
+
+-- the tables that the code has made for `none_late`
+pub record Made (N k : ℕ) (layer priority held near keys bars : List ℕ) (marks : List Bool) : Type 0 where
+  pub by-near : near ≡ near-of layer held k
+  pub by-key : keys ≡ keys-of priority held k
+  pub by-bar : bars ≡ table 65 (suc k) 0 (bar-key near keys k)
+  pub by-mark : marks ≡ table 1024 N false (seated held k)
+  pub bounded : (q : ℕ) → q < N → getD layer q 0 ≤ k
+
+module _ (N k : ℕ) (layer priority held near keys bars : List ℕ) (marks : List Bool) (w : Made N k layer priority held near keys bars marks) where
+  abbrev near₀ : List ℕ
+  near₀ = near-of layer held k
+
+  abbrev keys₀ : List ℕ
+  keys₀ = keys-of priority held k
+
+  late-is : each N (timely marks layer priority bars) ≡ none-late N k layer priority (seated held k) near₀ keys₀
+  unfolding none-late
+  late-is = each-same N (timely marks layer priority bars) late page
+    where
+      late : ℕ → Bool
+      late q = seated held k q || eqb (getD layer q 0) 0 || ltb (key-of (getD priority q 0) q) (bar-key near₀ keys₀ k (getD layer q 0))
+
+      marked : (q : ℕ) → q < N → getD marks q false ≡ seated held k q
+      marked q l = rw (w .by-mark) (table-at 1024 N false (seated held k) q l)
+
+      bar : (i : ℕ) → i ≤ k → getD bars i 0 ≡ bar-key near₀ keys₀ k i
+      bar i l = rw (w .by-bar, w .by-near, w .by-key) (table-at 65 (suc k) 0 (bar-key near₀ keys₀ k) i (omega arith))
+
+      page : (q : ℕ) → q < N → timely marks layer priority bars q ≡ late q
+      page q l = rw (marked q l, bar (getD layer q 0) (w .bounded q l))
+
+  pub certificate-not : (r : Bool) → r ≡ each N (timely marks layer priority bars) → not r ≡ true → false ≡ certificate N k layer priority held
+  unfolding certificate
+  certificate-not r e h = stop-left _ _ (refused r _ (e ∙ late-is) h)
+
+  pub certificate-is :
+      (t r : Bool) → t ≡ each N (timely marks layer priority bars) → not t ≡ false → r ≡ room near k → r ≡ certificate N k layer priority held
+  unfolding certificate
+  certificate-is t r e h er = go-on r _ _ (granted t _ (e ∙ late-is) h) (er ∙ ap (λ (l : List ℕ). room l k) (w .by-near))
+
+-- ---- all clauses
+
+pub unsound :
+    (N k : ℕ) (layer priority held : List ℕ) (b : Bool) →
+    (Parts N k layer priority held → b ≡ true) →
+    false ≡ b →
+    false ≡ tables-sound N k layer priority held
+unsound N k layer priority held b part e =
+    sym (isnt (tables-sound N k layer priority held) (λ t. clash (part (sound-parts N k layer priority held t)) (sym e)))

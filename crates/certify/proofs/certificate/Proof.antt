@@ -1,0 +1,57 @@
+-- `certify::certificate` meets its contract: over the tables that it makes, `none_late` and `has_room` test the words' own clauses.
+-- Assumes nothing.
+use native.Mathlib.Omega.{arith}
+use borrow.Author.Needs.{needs}
+use Rattle.certify.proofs.Together.{Made, certificate-not, certificate-is}
+use Rattle.certify.proofs.certificate.Statement.{statement}
+use Rattle.certify.proofs.certificate.Tie as tie
+
+cast-k : tie.Need-cast-k
+cast-k c = search needs
+
+nears-requires : tie.Need-nears-requires
+nears-requires c κs = (search needs, λ s l. omega (arith, c .pre .1 .1 s l))
+
+keys-requires : tie.Need-keys-requires
+keys-requires c κs = (search needs, λ s l. omega (arith, c .before .pre .1 .1 s l))
+
+bars-requires : tie.Need-bars-requires
+bars-requires c κs = search needs
+
+none-late-requires : tie.Need-none-late-requires
+none-late-requires c κs = (search needs, λ q l. omega (arith, c .before .before .before .before .before .before .pre .1 .0 q l))
+
+-- the tables by slots, layers and pages are made
+made :
+    (c : tie.After-bars) →
+    (let a = c .before .before .before .before .before .args in Made (a .pages) (a .slots) (a .layer .now) (a .priority .now) (a .held .now) (c .before .before .before .before .nears .result) (c .before .before .before .keys .result) (c .bars .result) (a .marks .now))
+made c =
+    record {
+      by-near = c .before .before .before .before .nears .ensures;
+      by-key = c .before .before .before .keys .ensures;
+      by-bar = c .bars .ensures;
+      by-mark = c .before .before .before .before .before .pre .0 .2;
+      bounded = c .before .before .before .before .before .pre .1 .0;
+    }
+
+returns : tie.Need-returns
+returns c = (certificate-not _ _ _ _ _ _ _ _ _ (made (c .before .before .before)) _ (c .before .none-late .ensures .0) (c .if1 .taken), c .before .none-late .ensures .1)
+
+has-room-requires : tie.Need-has-room-requires
+has-room-requires c κs = search needs
+
+returns-2 : tie.Need-returns-2
+returns-2 c = (certificate-is _ _ _ _ _ _ _ _ _ (made (c .before .before .before .before .before)) _ _ (c .before .before .before .none-late .ensures .0) (c .before .before .if1 .left) (c .has-room .ensures), c .before .before .before .none-late .ensures .1)
+
+pub certificate-spec : {M : Type 1} → statement M
+certificate-spec =
+    tie.close
+    (tie.spec
+    cast-k
+    nears-requires
+    keys-requires
+    bars-requires
+    none-late-requires
+    returns
+    has-room-requires
+    returns-2)

@@ -1,0 +1,198 @@
+// The soundness test of a run's tables, in flat passes: O(N + k²). That the cached set is the selection is seen by its
+// certificate, without building the selection. Assumes nothing.
+ghost use mathlib.Core.Path.{_≡_};
+ghost use mathlib.Core.Bool.{true, false, _||_};
+ghost use Prim.Native.Nat.{ℕ, suc, _<_, _≤_};
+ghost use lib.ListN.{length, getD, replicate};
+ghost use Rattle.paging.specs.Sets.{each, table, _=?_, _<?_};
+ghost use Rattle.ranking.specs.Key.{key-of};
+ghost use Rattle.slots.specs.Slots.{no-page, seated};
+ghost use Rattle.certify.specs.Test.{Narrow, room, bar-key, layers-fit, ends-clear, certificate};
+ghost use Rattle.certify.specs.Tables.{seats-fit, tables-sound};
+
+// For each j, the slots hold at most j pages of layers up to j.
+pub fn has_room(near: &[u8; 64], slots: u8) -> bool
+    requires { ⌜ slots ≤ 64 ⌝ }
+    ensures { λ r. ⌜ r ≡ room (now (near .entry)) slots ⌝ }
+{
+    let mut j: u8 = 0;
+    while j <= slots {
+        if (j as usize) < slots::count_to(near, slots as usize, j) {
+            return false;
+        }
+        j += 1;
+    }
+    true
+}
+
+// By layers, the least key up to the first full layer from it on.
+pub fn bars<'a>(near: &'a [u8; 64], keys: &'a [u32; 64], slots: u8) -> [u32; 65]
+    requires { ⌜ slots ≤ 64 ⌝ }
+    ensures { λ r. ⌜ r ≡ table 65 (suc slots) 0 (bar-key (now (near .entry)) (now (keys .entry)) slots) ⌝ }
+{
+    let k = slots as usize;
+    let mut bars = [0u32; 65];
+    let mut bar = slots::lowest(near, keys, k, slots);
+    let mut j = k + 1;
+    while 0 < j {
+        j -= 1;
+        if slots::count_to(near, k, j as u8) == j {
+            bar = slots::lowest(near, keys, k, j as u8);
+        }
+        bars[j] = bar;
+    }
+    bars
+}
+
+// Marks the pages in the slots; true where each is a page and none stands twice.
+pub fn mark<'a>(
+    marks: &'a mut [bool; 1024],
+    held: &'a [u16; 64],
+    pages: usize,
+    slots: usize,
+) -> bool
+    requires { ⌜ (pages ≤ 1024) × (slots ≤ 64) × (now marks ≡ replicate 1024 false) ⌝ }
+    ensures result { λ r. ⌜ r ≡ seats-fit pages slots (now (held .entry)) ⌝ }
+    ensures marked { λ r. ⌜ (r ≡ true → now (marks .exit) ≡ table 1024 pages false (seated (now (held .entry)) slots)) ⌝ }
+{
+    // A slice knows its length: a slot below 64 is an entry of the list.
+    let entries: &[u16] = held;
+    let mut s = 0;
+    while s < slots {
+        let page = entries[s] as usize;
+        if pages <= page {
+            return false;
+        }
+        if marks[page] {
+            return false;
+        }
+        marks[page] = true;
+        s += 1;
+    }
+    true
+}
+
+// A page that is in a slot, or of layer 0, or has a key that does not reach the bar.
+fn in_time(marked: bool, layer: u8, key: u32, bar: u32) -> bool
+    ensures { λ r. ⌜ r ≡ (marked || layer =? 0 || key <? bar) ⌝ }
+{
+    if marked {
+        return true;
+    }
+    if layer == 0 {
+        return true;
+    }
+    key < bar
+}
+
+// No page outside the slots has a key that reaches the bar of its layer; layer 0 has no bar.
+pub fn none_late<'a>(
+    layer: &'a [u8; 1024],
+    priority: &'a [u16; 1024],
+    marks: &'a [bool; 1024],
+    bars: &'a [u32; 65],
+    pages: usize,
+) -> bool
+    requires { ⌜ (pages ≤ 1024) × ((q : ℕ) → q < pages → getD (now layer) q 0 ≤ 64) ⌝ }
+    ensures result { λ r. ⌜ r ≡ each pages (λ q. getD (now (marks .entry)) q false || getD (now (layer .entry)) q 0 =? 0 || key-of (getD (now (priority .entry)) q 0) q <? getD (now (bars .entry)) (getD (now (layer .entry)) q 0) 0) ⌝ }
+    ensures narrow { λ _. ⌜ (0 < pages → Narrow (now (priority .entry))) ⌝ }
+{
+    // A slice knows that its entries are 16 bits wide.
+    let numbers: &[u16] = priority;
+    let mut q = 0;
+    while q < pages {
+        let l = layer[q];
+        let key = ranking::key(numbers[q], q as u16);
+        if !in_time(marks[q], l, key, bars[l as usize]) {
+            return false;
+        }
+        q += 1;
+    }
+    true
+}
+
+// The clauses on the layers: no page above layer k, a page in each of the layers 1 to k, just one in layer k.
+fn layers_fit(layer: &[u8; 1024], pages: usize, slots: usize) -> bool
+    requires { ⌜ (pages ≤ 1024) × (slots ≤ 64) ⌝ }
+    ensures { λ r. ⌜ r ≡ layers-fit pages slots (now (layer .entry)) ⌝ }
+{
+    let k = slots as u8;
+    if !layers::bounded(layer, pages, k) {
+        return false;
+    }
+    if !layers::filled(layer, pages, slots) {
+        return false;
+    }
+    layers::pages_in(layer, pages, k) == 1
+}
+
+// The clauses on the entries that no page and no slot has.
+fn ends_clear<'a>(
+    layer: &'a [u8; 1024],
+    priority: &'a [u16; 1024],
+    held: &'a [u16; 64],
+    pages: usize,
+    slots: usize,
+) -> bool
+    requires limits { ⌜ (pages ≤ 1024) × (slots ≤ 64) ⌝ }
+    requires lengths { ⌜ (length (now layer) ≡ 1024) × (length (now priority) ≡ 1024) × (length (now held) ≡ 64) ⌝ }
+    ensures { λ r. ⌜ r ≡ ends-clear pages slots (now (layer .entry)) (now (priority .entry)) (now (held .entry)) ⌝ }
+{
+    if !layers::no_layer_from(layer, pages) {
+        return false;
+    }
+    if !layers::no_priority_from(priority, pages) {
+        return false;
+    }
+    layers::no_page_from(held, slots)
+}
+
+// The certificate: there is room for the pages in the slots, and no page outside them is too late.
+fn certificate<'a>(
+    layer: &'a [u8; 1024],
+    priority: &'a [u16; 1024],
+    held: &'a [u16; 64],
+    marks: &'a [bool; 1024],
+    pages: usize,
+    slots: usize,
+) -> bool
+    requires limits { ⌜ (pages ≤ 1024) × (slots ≤ 64) × (now marks ≡ table 1024 pages false (seated (now held) slots)) ⌝ }
+    requires bounded { ⌜ ((q : ℕ) → q < pages → getD (now layer) q 0 ≤ slots) ⌝ }
+    requires seats { ⌜ ((s : ℕ) → s < slots → getD (now held) s no-page < pages) ⌝ }
+    ensures result { λ r. ⌜ r ≡ certificate pages slots (now (layer .entry)) (now (priority .entry)) (now (held .entry)) ⌝ }
+    ensures narrow { λ _. ⌜ (0 < pages → Narrow (now (priority .entry))) ⌝ }
+{
+    let k = slots as u8;
+    let near = slots::nears(layer, held, slots);
+    let keys = slots::keys(priority, held, slots);
+    let limits = bars(&near, &keys, k);
+    if !none_late(layer, priority, marks, &limits, pages) {
+        return false;
+    }
+    has_room(&near, k)
+}
+
+// The clauses of a sound run that speak of its tables.
+pub fn tables<'a>(
+    layer: &'a [u8; 1024],
+    priority: &'a [u16; 1024],
+    held: &'a [u16; 64],
+    pages: usize,
+    slots: usize,
+) -> bool
+    requires limits { ⌜ (1 ≤ pages) × (pages ≤ 1024) × (1 ≤ slots) × (slots ≤ 64) × (slots ≤ pages) ⌝ }
+    requires lengths { ⌜ (length (now layer) ≡ 1024) × (length (now priority) ≡ 1024) × (length (now held) ≡ 64) ⌝ }
+    ensures { λ r. ⌜ r ≡ tables-sound pages slots (now (layer .entry)) (now (priority .entry)) (now (held .entry)) ⌝ }
+{
+    if !layers_fit(layer, pages, slots) {
+        return false;
+    }
+    if !ends_clear(layer, priority, held, pages, slots) {
+        return false;
+    }
+    let mut marks = [false; 1024];
+    if !mark(&mut marks, held, pages, slots) {
+        return false;
+    }
+    certificate(layer, priority, held, &marks, pages, slots)
+}

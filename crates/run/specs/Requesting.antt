@@ -1,0 +1,78 @@
+-- A request as the code takes it: its refusals first, then the serving. Assumes nothing.
+use mathlib.Core.Bool.{Bool, true, false}
+use mathlib.Core.Logic.{_⊎_, inl, inr}
+use mathlib.Core.Path.{_≡_, _∙_}
+use Prim.Native.Nat.{ℕ, _≤_, _<_}
+use native.Mathlib.Omega.{arith}
+use lib.Dec.{ltb}
+use borrow.Author.Tests.{lt-ltb, le-ltb, ltb-true}
+use Rattle.serve.specs.declared.Event.the-variants.{Refused}
+use Rattle.run.specs.declared.Run.{Run}
+use Rattle.run.specs.declared.Served.{Served}
+use Rattle.paging.specs.Sets.{_<?_, unless_give_else_}
+use Rattle.paging.specs.Tests.{truth}
+use Rattle.certify.specs.Test.{room}
+use Rattle.run.specs.Numbers.{most-served}
+use Rattle.run.specs.Sound.{Sound, sound}
+use Rattle.run.specs.Request.{served, requested}
+use Rattle.run.specs.SoundLaws.{sound-iff}
+
+-- 1, 8, 9, or 0.
+unfoldable pub request-refusal : Run → ℕ → ℕ
+request-refusal r p =
+    unless sound r give 1 else
+    unless p <? r .pages give 8 else
+    unless r .served <? most-served give 9 else
+    0
+
+module _ (r : Run) (p : ℕ) where
+  pub refuse-unsound : sound r ≡ false → 1 ≡ request-refusal r p
+  unfolding request-refusal
+  refuse-unsound e = rw e
+
+  module _ (e : sound r ≡ true) where
+    pub refuse-page : r .pages ≤ p → 8 ≡ request-refusal r p
+    unfolding request-refusal
+    refuse-page h = rw (e, le-ltb p (r .pages) h)
+
+    pub refuse-served : p < r .pages → most-served ≤ r .served → 9 ≡ request-refusal r p
+    unfolding request-refusal
+    refuse-served l h = rw (e, lt-ltb p (r .pages) l, le-ltb (r .served) most-served h)
+
+    pub refuse-none : p < r .pages → r .served < most-served → 0 ≡ request-refusal r p
+    unfolding request-refusal
+    refuse-none l h = rw (e, lt-ltb p (r .pages) l, lt-ltb (r .served) most-served h)
+
+  -- what it means that none of them applies
+  pub not-refused : request-refusal r p ≡ 0 → Sound r × (p < r .pages) × (r .served < most-served)
+  unfolding request-refusal
+  not-refused h = go (truth (sound r)) (truth (ltb p (r .pages))) (truth (ltb (r .served) most-served))
+    where
+      Test : Bool → Type 0
+      Test b = (b ≡ true) ⊎ (b ≡ false)
+
+      go : Test (sound r) → Test (ltb p (r .pages)) → Test (ltb (r .served) most-served) → Sound r × (p < r .pages) × (r .served < most-served)
+      go (inr a) b c = absurd (omega (arith, rw a at h))
+      go (inl a) (inr b) c = absurd (omega (arith, rw (a, b) at h))
+      go (inl a) (inl b) (inr c) = absurd (omega (arith, rw (a, b, c) at h))
+      go (inl a) (inl b) (inl c) = (sound-iff r .0 a, ltb-true p (r .pages) b, ltb-true (r .served) most-served c)
+
+  pub requested-refused :
+      (n : ℕ) → n ≡ request-refusal r p → (n ≡ 0 → ⊥) → _≡_ {A = Served} (record { run = r; event = Refused n; best = 0 }) (requested r p)
+  unfolding request-refusal requested
+  requested-refused n e ne = go (truth (sound r)) (truth (ltb p (r .pages))) (truth (ltb (r .served) most-served))
+    where
+      Test : Bool → Type 0
+      Test b = (b ≡ true) ⊎ (b ≡ false)
+
+      go : Test (sound r) → Test (ltb p (r .pages)) → Test (ltb (r .served) most-served) → _≡_ {A = Served} (record { run = r; event = Refused n; best = 0 }) (requested r p)
+      go (inr a) b c = rw (e, a)
+      go (inl a) (inr b) c = rw (e, a, b)
+      go (inl a) (inl b) (inr c) = rw (e, a, b, c)
+      go (inl a) (inl b) (inl c) = absurd (ne (e ∙ rw (a, b, c)))
+
+  pub requested-served : request-refusal r p ≡ 0 → requested r p ≡ served r p
+  unfolding requested
+  requested-served z =
+      let (w, l, room) = not-refused z in
+      rw (sound-iff r .1 w, lt-ltb p (r .pages) l, lt-ltb (r .served) most-served room)

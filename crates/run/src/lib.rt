@@ -1,0 +1,396 @@
+// A run: what the board keeps, and every call on it that is not a file or a frame. What each call means is said in specs/.
+// Assumes nothing.
+ghost use mathlib.Core.Path.{_≡_};
+ghost use Prim.Native.Nat.{_+_, _≤_, _<_};
+ghost use Rattle.paging.specs.Sets.{_=?_, bit};
+ghost use Rattle.run.specs.Numbers.{most-served, blank-run};
+ghost use Rattle.run.specs.Start.{started, started-default};
+ghost use Rattle.run.specs.Starting.{list-refusal, begun-run};
+ghost use Rattle.run.specs.Sound.{Sound, sound};
+ghost use Rattle.run.specs.Request.{served, requested, tried};
+ghost use Rattle.run.specs.Requesting.{request-refusal};
+ghost use Rattle.run.specs.Questions.{refusal, layer-answer, certain-answer, selection-answer};
+ghost use Rattle.run.specs.Serving.{with-counts, answered};
+use serve::Event;
+
+pub struct Run {
+    pub pages: usize,
+    pub slots: usize,
+    pub served: u32,
+    pub hits: u32,
+    pub misses: u32,
+    pub best: u32,
+    pub layer: [u8; 1024],
+    pub priority: [u16; 1024],
+    pub held: [u16; 64],
+}
+
+// A request or a trial: the run, the event, and best with this request counted.
+pub struct Served {
+    pub run: Run,
+    pub event: Event,
+    pub best: u32,
+}
+
+pub struct Started {
+    pub run: Run,
+    pub refusal: u8,
+}
+
+pub struct LayerAnswer {
+    pub layer: u8,
+    pub refusal: u8,
+}
+
+pub struct CertainAnswer {
+    pub certain: bool,
+    pub refusal: u8,
+}
+
+pub struct SelectionAnswer {
+    pub pages: [bool; 1024],
+    pub refusal: u8,
+}
+
+impl Run {
+    pub const MAX_PAGES: usize = 1024;
+
+    pub const MAX_SLOTS: usize = 64;
+
+    pub const MAX_SERVED: u32 = 1000000;
+
+    pub fn blank() -> Self
+        ensures { λ r. ⌜ r ≡ blank-run ⌝ }
+    {
+        Self {
+            pages: 0,
+            slots: 0,
+            served: 0,
+            hits: 0,
+            misses: 0,
+            best: 0,
+            layer: [0u8; 1024],
+            priority: [0u16; 1024],
+            held: [65535u16; 64],
+        }
+    }
+
+    // The first refusal of a start that its numbers and its list give: 2 to 6, or 0.
+    fn list_refusal(pages: usize, slots: usize, list: &[u16]) -> u8
+        ensures { λ r. ⌜ r ≡ list-refusal pages slots (now (list .entry)) ⌝ }
+    {
+        if pages < 1 {
+            return 2;
+        }
+        if Run::MAX_PAGES < pages {
+            return 2;
+        }
+        if slots < 1 {
+            return 3;
+        }
+        if Run::MAX_SLOTS < slots {
+            return 3;
+        }
+        if pages < slots {
+            return 3;
+        }
+        if list.len() != slots {
+            return 4;
+        }
+        if !begin::all_below(list, pages) {
+            return 5;
+        }
+        if !begin::all_different(list) {
+            return 6;
+        }
+        0
+    }
+
+    // A run that begins with the pages of a list in its slots.
+    fn begun(pages: usize, slots: usize, list: &[u16], priority: [u16; 1024]) -> Self
+        requires { ⌜ list-refusal pages slots (now list) ≡ 0 ⌝ }
+        ensures { λ r. ⌜ r ≡ begun-run pages slots (now (list .entry)) priority ⌝ }
+    {
+        Self {
+            pages,
+            slots,
+            served: 0,
+            hits: 0,
+            misses: 0,
+            best: 0,
+            layer: begin::layers_of(list, pages),
+            priority,
+            held: begin::slots_of(list, slots),
+        }
+    }
+
+    // Starts a run with a start list and a priority for each page. Refusals 2, 3, 4, 5, 6, 7: then the blank run.
+    pub fn start(pages: usize, slots: usize, list: &[u16], priorities: &[u16]) -> Started
+        ensures { λ r. ⌜ r ≡ started pages slots (now (list .entry)) (now (priorities .entry)) ⌝ }
+    {
+        let refusal = Run::list_refusal(pages, slots, list);
+        if refusal != 0 {
+            return Started {
+                run: Run::blank(),
+                refusal,
+            };
+        }
+        if priorities.len() != pages {
+            return Started {
+                run: Run::blank(),
+                refusal: 7,
+            };
+        }
+        Started {
+            run: Run::begun(pages, slots, list, begin::priorities_of(priorities, pages)),
+            refusal: 0,
+        }
+    }
+
+    // The same with the default priorities.
+    pub fn start_default(pages: usize, slots: usize, list: &[u16]) -> Started
+        ensures { λ r. ⌜ r ≡ started-default pages slots (now (list .entry)) ⌝ }
+    {
+        let refusal = Run::list_refusal(pages, slots, list);
+        if refusal != 0 {
+            return Started {
+                run: Run::blank(),
+                refusal,
+            };
+        }
+        Started {
+            run: Run::begun(pages, slots, list, begin::default_priorities(pages)),
+            refusal: 0,
+        }
+    }
+
+    // The run after a served request: other tables, and counts added.
+    fn counted(mut self, layer: [u8; 1024], held: [u16; 64], hit: u32, miss: u32, new: u32) -> Self
+        requires { ⌜ (self .served + 1 ≤ 4294967295) × (self .hits + hit ≤ 4294967295) × (self .misses + miss ≤ 4294967295) × (self .best + new ≤ 4294967295) ⌝ }
+        ensures { λ r. ⌜ r ≡ with-counts self layer held hit miss new ⌝ }
+    {
+        self.served += 1;
+        self.hits += hit;
+        self.misses += miss;
+        self.best += new;
+        self.layer = layer;
+        self.held = held;
+        self
+    }
+
+    // The answer of a request, from its event and the tables after it.
+    fn answered(self, event: Event, layer: [u8; 1024], held: [u16; 64], new: u32) -> Served
+        requires { ⌜ (self .served + 1 ≤ 4294967295) × (self .hits + 1 ≤ 4294967295) × (self .misses + 1 ≤ 4294967295) × (self .best + 1 ≤ 4294967295) × (new ≤ 1) ⌝ }
+        ensures { λ r. ⌜ r ≡ answered self new event layer held ⌝ }
+    {
+        match event {
+            Event::Hit { slot } => {
+                let run = self.counted(layer, held, 1, 0, new);
+                let best = run.best;
+                Served {
+                    run,
+                    event: Event::Hit { slot },
+                    best,
+                }
+            }
+            Event::Miss { slot, victim } => {
+                let run = self.counted(layer, held, 0, 1, new);
+                let best = run.best;
+                Served {
+                    run,
+                    event: Event::Miss { slot, victim },
+                    best,
+                }
+            }
+            Event::Refused { number } => Served {
+                run: self,
+                event: Event::Refused { number },
+                best: 0,
+            },
+        }
+    }
+
+    // A request of a page to a run that is known to be sound, and may serve one more: O(N + k), and no test inside.
+    pub fn serve(self, page: usize) -> Served
+        requires { ⌜ Sound self × (page < self .pages) × (self .served < most-served) ⌝ }
+        ensures { λ r. ⌜ r ≡ served self page ⌝ }
+    {
+        let pages = self.pages;
+        let slots = self.slots;
+        let priority = self.priority;
+        let mut layer = self.layer;
+        let mut held = self.held;
+        let mut near = slots::nears(&layer, &held, slots);
+        let mut keys = slots::keys(&priority, &held, slots);
+        let new = Run::new_page(layer[page]);
+        let event = serve::step(
+            &mut layer,
+            &priority,
+            &mut held,
+            &mut near,
+            &mut keys,
+            pages,
+            (slots % 256) as u8,
+            (page % 65536) as u16,
+        );
+        self.answered(event, layer, held, new)
+    }
+
+    // 1 for layer 0, else 0.
+    fn new_page(layer: u8) -> u32
+        ensures { λ r. ⌜ r ≡ bit (layer =? 0) ⌝ }
+    {
+        if layer == 0 { 1 } else { 0 }
+    }
+
+    // Whether the run is sound. Hits and misses are not added before it is known that the sum fits.
+    pub fn is_sound(self) -> bool
+        ensures { λ r. ⌜ r ≡ sound self ⌝ }
+    {
+        let pages = self.pages;
+        let slots = self.slots;
+        if pages < 1 {
+            return false;
+        }
+        if Run::MAX_PAGES < pages {
+            return false;
+        }
+        if slots < 1 {
+            return false;
+        }
+        if Run::MAX_SLOTS < slots {
+            return false;
+        }
+        if pages < slots {
+            return false;
+        }
+        if Run::MAX_SERVED < self.served {
+            return false;
+        }
+        if self.served < self.hits {
+            return false;
+        }
+        if self.served - self.hits != self.misses {
+            return false;
+        }
+        if self.misses < self.best {
+            return false;
+        }
+        certify::tables(&self.layer, &self.priority, &self.held, pages, slots)
+    }
+
+    // The first refusal of a request: 1, 8, 9, or 0.
+    fn request_refusal(self, page: usize) -> u8
+        ensures { λ r. ⌜ r ≡ request-refusal self page ⌝ }
+    {
+        if !self.is_sound() {
+            return 1;
+        }
+        if self.pages <= page {
+            return 8;
+        }
+        if Run::MAX_SERVED <= self.served {
+            return 9;
+        }
+        0
+    }
+
+    // Serves a request: the next run with the event, and best with this request counted. Refusals 1, 8, 9, 17: then this run.
+    pub fn request(mut self, page: usize) -> Served
+        ensures { λ r. ⌜ r ≡ requested self page ⌝ }
+    {
+        let number = self.request_refusal(page);
+        if number != 0 {
+            return Served {
+                run: self,
+                event: Event::Refused { number },
+                best: 0,
+            };
+        }
+        self.serve(page)
+    }
+
+    // Answers as a request would, and keeps nothing: this run comes back.
+    pub fn trial(mut self, page: usize) -> Served
+        ensures { λ r. ⌜ r ≡ tried self page ⌝ }
+    {
+        let served = self.request(page);
+        let event = served.event;
+        Served {
+            run: self,
+            event,
+            best: served.best,
+        }
+    }
+
+    // The first refusal of a question about a page: 1, 8, or 0.
+    fn question_refusal(self, page: usize) -> u8
+        ensures { λ r. ⌜ r ≡ refusal self page ⌝ }
+    {
+        if !self.is_sound() {
+            return 1;
+        }
+        if self.pages <= page {
+            return 8;
+        }
+        0
+    }
+
+    // The layer of a page. Refusals 1, 8.
+    pub fn layer(self, page: usize) -> LayerAnswer
+        ensures { λ r. ⌜ r ≡ layer-answer self page ⌝ }
+    {
+        let refusal = self.question_refusal(page);
+        if refusal != 0 {
+            return LayerAnswer { layer: 0, refusal };
+        }
+        let layer = self.layer;
+        LayerAnswer {
+            layer: layer[page],
+            refusal: 0,
+        }
+    }
+
+    // Whether a page is certain: alone in its layer 1 to k. Refusals 1, 8.
+    pub fn certain(self, page: usize) -> CertainAnswer
+        ensures { λ r. ⌜ r ≡ certain-answer self page ⌝ }
+    {
+        let refusal = self.question_refusal(page);
+        if refusal != 0 {
+            return CertainAnswer {
+                certain: false,
+                refusal,
+            };
+        }
+        let layer = self.layer;
+        let j = layer[page];
+        if j == 0 {
+            return CertainAnswer {
+                certain: false,
+                refusal: 0,
+            };
+        }
+        CertainAnswer {
+            certain: layers::pages_in(&layer, self.pages, j) == 1,
+            refusal: 0,
+        }
+    }
+
+    // The plain selection, built afresh from a copied layer table. Refusal 1: then the empty set.
+    pub fn selection(self) -> SelectionAnswer
+        ensures { λ r. ⌜ r ≡ selection-answer self ⌝ }
+    {
+        if !self.is_sound() {
+            return SelectionAnswer {
+                pages: [false; 1024],
+                refusal: 1,
+            };
+        }
+        let layer = self.layer;
+        let priority = self.priority;
+        SelectionAnswer {
+            pages: selection::selected(layer, priority, self.pages, self.slots),
+            refusal: 0,
+        }
+    }
+}

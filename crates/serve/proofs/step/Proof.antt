@@ -1,0 +1,51 @@
+-- `serve::step` meets its contract: a page that is in a slot is a hit there, any other goes to `swap`. Assumes nothing.
+use Prim.Native.Nat.{_-_}
+use mathlib.Core.Path.{sym, _∙_}
+use borrow.Author.Needs.{needs}
+use Rattle.serve.proofs.Swaps.{settles, away, here, stayed}
+use Rattle.serve.proofs.step.Statement.{statement}
+use Rattle.serve.proofs.step.Tie as tie
+
+find-requires : tie.Need-find-requires
+find-requires c κs = search needs
+
+enum-known-place : tie.Need-enum-known-place
+enum-known-place c = search needs
+
+enum-told : tie.Need-enum-told
+enum-told c = search needs
+
+swap-requires : tie.Need-swap-requires
+swap-requires c κs = (
+  c .before .before .before .before .before .before .before .before .pre .0,
+  (
+    c .before .before .before .before .before .before .before .before .pre .1,
+    away _ _ _ (sym (c .before .before .before .before .enum-told .given .1) ∙ c .before .before .before .before .before .before .find .ensures),
+  ),
+)
+
+returns : tie.Need-returns
+returns c = search needs
+
+settle-requires : tie.Need-settle-requires
+settle-requires c κs =
+    settles (c .before .before .before .before .before .before .before .pre .0) (c .before .before .before .before .before .before .before .pre .1 .0) _ (here _ _ _ _ (sym (c .before .before .before .place .given .1) ∙ c .before .before .before .before .before .find .ensures))
+
+returns-2 : tie.Need-returns-2
+returns-2 c =
+    stayed (c .before .before .before .before .before .before .before .before .pre .0) (c .before .before .before .before .before .before .before .before .pre .1 .0) (c .before .before .before .before .before .before .before .before .pre .1 .1) _ _ _
+    (sym (c .before .before .before .before .place .given .1) ∙ c .before .before .before .before .before .before .find .ensures)
+    (c .settle .ensures .0)
+    (c .settle .ensures .1)
+
+pub step-spec : {M : Type 1} → statement M
+step-spec =
+    tie.close
+    (tie.spec
+    find-requires
+    enum-known-place
+    enum-told
+    swap-requires
+    returns
+    settle-requires
+    returns-2)

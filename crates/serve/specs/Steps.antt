@@ -1,0 +1,134 @@
+-- What the step leaves on a hit and on a miss is what document 01's rule says. Assumes nothing.
+use mathlib.Core.Bool.{true, false}
+use mathlib.Core.List.{List}
+use mathlib.Core.Logic.{⊎-elim}
+use mathlib.Core.Option.{Option, some, Option·getD}
+use mathlib.Core.Path.{Path, _≡_, refl, sym, ap, _∙_}
+use Prim.Native.Nat.{ℕ, _≤_}
+use native.Mathlib.Omega.{arith}
+use lib.Dec.{eqb}
+use lib.ListN.{getD, set}
+use lib.Seq.{getD-set-same, getD-set-other}
+use borrow.Author.Tests.{eqb-true, eqb-false}
+use Rattle.serve.specs.declared.Event.the-variants.{Hit, Miss}
+use Rattle.paging.specs.Tests.{truth, clash, is, positive}
+use Rattle.paging.specs.Moves.{bar}
+use Rattle.paging.specs.Certificate.{held}
+use Rattle.paging.specs.Theorems.{miss-victim}
+use Rattle.ranking.specs.Order.{outranks-ranking}
+use Rattle.ranking.specs.Key.{key-of}
+use Rattle.layers.specs.Asked.{layer-at, asked, sunk}
+use Rattle.slots.specs.Slots.{no-page, seated, seat, found, near-of, keys-of}
+use Rattle.slots.specs.Laws.{seated-in, seat-some}
+use Rattle.serve.specs.Step.{by, slot, Ready, victim-in, missed, replaced, event-of, held-after, least-page, search-to}
+use Rattle.serve.specs.Step.{Stepped}
+use Rattle.serve.specs.Searches.{near-reach, new-victim, known-victim, reach-there}
+use Rattle.serve.specs.After.{near-after, keys-after}
+
+module _ (N k p : ℕ) (layer priority held : List ℕ) (w : Ready N k p layer priority held) where
+  abbrev L : ℕ → ℕ
+  L = layer-at layer
+
+  abbrev from : ℕ
+  from = bar k (L p)
+
+  abbrev near : List ℕ
+  near = near-of layer held k
+
+  abbrev keys : List ℕ
+  keys = keys-of priority held k
+
+  -- the search over the slots finds the victim
+  pub victim-found-by-slots :
+      ((q : ℕ) → getD priority q 0 ≤ 65535) →
+      Path (Option ℕ) (least-page near keys k (search-to near k (L p))) (victim-in N k p layer priority held)
+  unfolding least-page search-to
+  victim-found-by-slots small = ⊎-elim new known (truth (eqb (L p) 0))
+    where
+      new : eqb (L p) 0 ≡ true → Path (Option ℕ) (least-page near keys k (search-to near k (L p))) (victim-in N k p layer priority held)
+      new e = rw e (sym (new-victim N k p layer priority held w small (eqb-true (L p) 0 e)))
+
+      known : eqb (L p) 0 ≡ false → Path (Option ℕ) (least-page near keys k (search-to near k (L p))) (victim-in N k p layer priority held)
+      known e =
+          let pos = positive (L p) (eqb-false (L p) 0 e) in
+          let (j, le, at) = reach-there N k p layer priority held w small pos in
+          let found = near-reach N k p layer priority held w small (L p) ∙ at in
+          rw e (ap (least-page near keys k) found ∙ sym (known-victim N k p layer priority held w small j pos at))
+
+  -- there is one, and it is in a slot
+  pub victim-is-there : (v : ℕ) × Path (Option ℕ) (victim-in N k p layer priority held) (some v)
+  victim-is-there =
+      miss-victim
+      N
+      k
+      p
+      (by priority)
+      (by priority)
+      L
+      (seated held k)
+      (w .slots .0)
+      (outranks-ranking N (λ q. getD priority q 0))
+      (outranks-ranking N (λ q. getD priority q 0))
+      (λ a b la lb na nb. refl)
+      (w .layered)
+      (w .page)
+      (w .cached)
+
+  slot-is : (q s : ℕ) → Path (Option ℕ) (seat held k q) (some s) → slot held k q ≡ s
+  slot-is q s e = ap (λ (x : Option ℕ). Option·getD x 0) e
+
+  -- a hit, in slot s
+  pub hit-stepped :
+      (s : ℕ) →
+      Path (Option ℕ) (seat held k p) (some s) →
+      Stepped N k p layer priority held (Hit s) (asked N k p layer) held (set (sunk from k near) s k) keys
+  unfolding event-of held-after
+  hit-stepped s e =
+      let (l, at) = seat-some held k p s e in
+      let here = seated-in held k p s l at in
+      record {
+        event-is = rw (here, slot-is p s e);
+        layer-is = refl;
+        held-is = rw here;
+        near-is =
+            near-after N k p layer priority held w held s l at
+            (λ t lt ne. (refl, λ same. ne (w .one t s lt l (same ∙ sym at))));
+        keys-is = refl;
+        long = w .long .0;
+      }
+
+  -- a miss, whose victim v is in slot s
+  pub miss-stepped :
+      (v s : ℕ) →
+      seated held k p ≡ false →
+      Path (Option ℕ) (victim-in N k p layer priority held) (some v) →
+      Path (Option ℕ) (seat held k v) (some s) →
+      Stepped
+      N
+      k
+      p
+      layer
+      priority
+      held
+      (Miss s v)
+      (asked N k p layer)
+      (set held s p)
+      (set (sunk from k near) s k)
+      (set keys s (key-of (getD priority p 0) p))
+  unfolding event-of held-after missed replaced
+  miss-stepped v s out is e =
+      let (l, at) = seat-some held k v s e in
+      record {
+        event-is = rw (out, is, slot-is v s e);
+        layer-is = refl;
+        held-is = rw (out, is, slot-is v s e);
+        near-is =
+            near-after N k p layer priority held w (set held s p) s l
+            (getD-set-same held s p no-page (omega (arith, w .long .1, w .slots .1)))
+            (λ t lt ne. (
+              getD-set-other held s t p no-page ne,
+              λ same. clash (seated-in held k p t lt same) out,
+            ));
+        keys-is = keys-after N k p layer priority held w s l;
+        long = w .long .0;
+      }

@@ -1,0 +1,122 @@
+// One request of a sound run, over its arrays, which are lent and changed in place: O(N + k) and no soundness test inside. A
+// replay keeps the arrays and, by slots, the layers and keys of the pages in them. Assumes nothing.
+ghost use mathlib.Core.Path.{_≡_};
+ghost use mathlib.Core.Bool.{false};
+ghost use Prim.Native.Nat.{ℕ, _<_, _≤_};
+ghost use lib.ListN.{length, set};
+ghost use Rattle.paging.specs.Moves.{bar};
+ghost use Rattle.layers.specs.Asked.{layer-at, asked, sunk};
+ghost use Rattle.slots.specs.Slots.{seated, found, near-of, keys-of};
+ghost use Rattle.serve.specs.Step.{Ready, Stepped, least-page, search-to};
+use slots::Found;
+
+// What a request comes to.
+pub enum Event {
+    Hit { slot: usize },
+    Miss { slot: usize, victim: usize },
+    Refused { number: u8 },
+}
+
+// Up to which layer a miss of a page of layer i looks for its victim.
+fn search(near: &[u8; 64], slots: u8, i: u8) -> Found
+    requires { ⌜ slots ≤ 64 ⌝ }
+    ensures { λ r. ⌜ r ≡ found (search-to (now (near .entry)) slots i) ⌝ }
+{
+    if i == 0 {
+        return Found::At(slots as usize);
+    }
+    slots::reach(near, slots, i)
+}
+
+// The page that makes room for a page of layer i.
+fn victim<'a>(near: &'a [u8; 64], keys: &'a [u32; 64], slots: u8, i: u8) -> Found
+    requires { ⌜ slots ≤ 64 ⌝ }
+    ensures { λ r. ⌜ r ≡ found (least-page (now (near .entry)) (now (keys .entry)) slots (search-to (now (near .entry)) slots i)) ⌝ }
+{
+    let to = search(near, slots, i);
+    match to {
+        Found::At(j) => {
+            let key = slots::lowest(near, keys, slots as usize, (j % 256) as u8);
+            Found::At(slots::page_of(key) as usize)
+        }
+        Found::Nowhere => Found::Nowhere,
+    }
+}
+
+// The layers after a request of `page`, which is in slot s now: of all pages, and by slots.
+fn settle<'a>(
+    layer: &'a mut [u8; 1024],
+    near: &'a mut [u8; 64],
+    pages: usize,
+    slots: u8,
+    page: usize,
+    s: usize,
+)
+    requires limits { ⌜ (page < pages) × (pages ≤ 1024) × (0 < slots) × (slots ≤ 64) × (s < slots) ⌝ }
+    requires lengths { ⌜ (length (now layer) ≡ 1024) × (length (now near) ≡ 64) ⌝ }
+    requires bounded { ⌜ ((q : ℕ) → q < pages → layer-at (now layer) q ≤ slots) ⌝ }
+    ensures layers { λ _. ⌜ now (layer .exit) ≡ asked pages slots page (now (layer .entry)) ⌝ }
+    ensures nears { λ _. ⌜ now (near .exit) ≡ set (sunk (bar slots (layer-at (now (layer .entry)) page)) slots (now (near .entry))) s slots ⌝ }
+{
+    let from = layers::first_sinking(layer[page], slots);
+    layers::ask(layer, pages, slots, page, from);
+    layers::sink_near(near, slots as usize, from);
+    near[s] = slots;
+}
+
+// A request of a page that is in no slot: it takes the slot of its victim. 17: a miss finds no j, or its victim no slot.
+fn swap<'a>(
+    layer: &'a mut [u8; 1024],
+    priority: &'a [u16; 1024],
+    held: &'a mut [u16; 64],
+    near: &'a mut [u8; 64],
+    keys: &'a mut [u32; 64],
+    pages: usize,
+    slots: u8,
+    page: u16,
+) -> Event
+    requires ready { ⌜ Ready pages slots page (now layer) (now priority) (now held) ⌝ }
+    requires nears { ⌜ (now near ≡ near-of (now layer) (now held) slots) × (now keys ≡ keys-of (now priority) (now held) slots) ⌝ }
+    requires away { ⌜ seated (now held) slots page ≡ false ⌝ }
+    ensures { λ r. ⌜ Stepped pages slots page (now (layer .entry)) (now (priority .entry)) (now (held .entry)) r (now (layer .exit)) (now (held .exit)) (now (near .exit)) (now (keys .exit)) ⌝ }
+{
+    let p = page as usize;
+    let numbers: &[u16] = priority;
+    let key = ranking::key(numbers[p], page);
+    let out = victim(near, keys, slots, layer[p]);
+    let Found::At(v) = out else {
+        return Event::Refused { number: 17 };
+    };
+    let place = slots::find(held, slots as usize, (v % 65536) as u16);
+    let Found::At(s) = place else {
+        return Event::Refused { number: 17 };
+    };
+    held[s] = page;
+    keys[s] = key;
+    settle(layer, near, pages, slots, p, s);
+    Event::Miss { slot: s, victim: v }
+}
+
+// A request of `page`: the event, and the arrays after it.
+pub fn step<'a>(
+    layer: &'a mut [u8; 1024],
+    priority: &'a [u16; 1024],
+    held: &'a mut [u16; 64],
+    near: &'a mut [u8; 64],
+    keys: &'a mut [u32; 64],
+    pages: usize,
+    slots: u8,
+    page: u16,
+) -> Event
+    requires ready { ⌜ Ready pages slots page (now layer) (now priority) (now held) ⌝ }
+    requires nears { ⌜ (now near ≡ near-of (now layer) (now held) slots) × (now keys ≡ keys-of (now priority) (now held) slots) ⌝ }
+    ensures { λ r. ⌜ Stepped pages slots page (now (layer .entry)) (now (priority .entry)) (now (held .entry)) r (now (layer .exit)) (now (held .exit)) (now (near .exit)) (now (keys .exit)) ⌝ }
+{
+    let p = page as usize;
+    let place = slots::find(held, slots as usize, page);
+    let Found::At(s) = place else {
+        return swap(layer, priority, held, near, keys, pages, slots, page);
+    };
+    settle(layer, near, pages, slots, p, s);
+    Event::Hit { slot: s }
+}
