@@ -5,7 +5,30 @@ ghost use Prim.Native.Nat.{_≤_};
 ghost use lib.ListN.{length, getD};
 ghost use Rattle.paging.specs.Sets.{_=?_, any};
 ghost use Rattle.ranking.specs.Defaults.{default-priorities};
+ghost use Rattle.begin.specs.Limits.{limits-refusal};
 ghost use Rattle.begin.specs.Begin.{below, different, start-layers, start-priorities, start-slots};
+
+// The refusal that N and k give by themselves: 2, 3, or 0.
+pub fn limits_refusal(pages: usize, slots: usize) -> u8
+    ensures { λ r. ⌜ r ≡ limits-refusal pages slots ⌝ }
+{
+    if pages < 1 {
+        return 2;
+    }
+    if 1024 < pages {
+        return 2;
+    }
+    if slots < 1 {
+        return 3;
+    }
+    if 64 < slots {
+        return 3;
+    }
+    if pages < slots {
+        return 3;
+    }
+    0
+}
 
 // Each start page is below `pages`.
 pub fn all_below(list: &[u16], pages: usize) -> bool

@@ -1,7 +1,7 @@
 -- The bars from the last layer down: the first full layer from each on, and what one turn of the loop adds. Assumes nothing.
 use mathlib.Core.Bool.{Bool, true, _&&_}
 use mathlib.Core.List.{List}
-use mathlib.Core.Logic.{⊎-elim}
+use mathlib.Core.Logic.{_⊎_, ⊎-elim}
 use mathlib.Core.Option.{Option, none, some, Option·getD}
 use mathlib.Core.Path.{Path, _≡_, refl, sym, ap, _∙_}
 use Prim.Native.Nat.{ℕ, zero, suc, _+_, _≤_, _<_}
@@ -69,7 +69,9 @@ module _ (near : List ℕ) (k : ℕ) where
   far-next : (i : ℕ) → (near-to near k i ≡ i → ⊥) → far near k i ≡ far near k (suc i)
   unfolding far
   far-next i ne =
-      ap (λ (x : Option ℕ). Option·getD x k) (first-same (suc k) (full i) (full (suc i)) (λ j. same-test (full i j) (full (suc i) j) (there j) (back j)))
+      ap
+      (λ (x : Option ℕ). Option·getD x k)
+      (first-same (suc k) (full i) (full (suc i)) (λ j. same-test (full i j) (full (suc i) j) (there j) (back j)))
     where
       there : (j : ℕ) → full i j ≡ true → full (suc i) j ≡ true
       there j t =
@@ -87,6 +89,10 @@ pub record Bars (near keys : List ℕ) (k : ℕ) (bars : List ℕ) (bar j : ℕ)
   pub made : (i : ℕ) → j ≤ i → i ≤ k → getD bars i 0 ≡ bar-key near keys k i
   pub past : (i : ℕ) → k < i → getD bars i 0 ≡ 0
 
+-- what a turn's `if` leaves: one thing where the test held, another where it failed
+abbrev pub Turn : Type 0 → Type 0 → Type 0 → Type 0 → Type 0
+Turn held then failed else = (held × then) ⊎ (failed × else)
+
 module _ (near keys : List ℕ) (k : ℕ) where
   pub bars-none : (bar : ℕ) → bar ≡ least-key near keys k k → Bars near keys k (replicate 65 0) bar (k + 1)
   unfolding bar-key
@@ -98,32 +104,67 @@ module _ (near keys : List ℕ) (k : ℕ) where
         past = λ i l. replicate-at 65 0 i;
       }
 
-  -- the bar of a layer is its own where it is full, else the next layer's
-  pub bar-full : (i bar n : ℕ) → i ≤ k → n ≡ near-to near k i → n ≡ i → bar ≡ least-key near keys i k → bar ≡ bar-key near keys k i
+  -- one layer down: the layer's own bar where it is full, else the next layer's
+  bar-here :
+      (i j bar old n : ℕ) →
+      suc i ≡ j →
+      j ≤ k + 1 →
+      n ≡ near-to near k i →
+      old ≡ bar-key near keys k j →
+      Turn (n ≡ i) (bar ≡ least-key near keys i k) (n ≡ i → ⊥) (bar ≡ old) →
+      bar ≡ bar-key near keys k i
   unfolding bar-key
-  bar-full i bar n l en e eb = eb ∙ ap (λ (j : ℕ). least-key near keys j k) (sym (far-full near k i l (sym en ∙ e)))
+  bar-here i j bar old n s l en eo came =
+      ⊎-elim
+      (λ w. w .1 ∙ ap (λ (f : ℕ). least-key near keys f k) (sym (far-full near k i (omega arith) (sym en ∙ w .0))))
+      (λ w. w .1 ∙ (eo ∙ ap (λ (f : ℕ). least-key near keys f k) (same (w .0))))
+      came
+    where
+      same : (n ≡ i → ⊥) → far near k j ≡ far near k i
+      same ne = ap (far near k) (sym s) ∙ sym (far-next near k i (λ e. ne (en ∙ e)))
 
-  pub bar-next : (i j bar n : ℕ) → suc i ≡ j → n ≡ near-to near k i → (n ≡ i → ⊥) → bar ≡ bar-key near keys k j → bar ≡ bar-key near keys k i
-  unfolding bar-key
-  bar-next i j bar n s en ne eb = eb ∙ ap (λ (j : ℕ). least-key near keys j k) (ap (far near k) (sym s) ∙ sym (far-next near k i (λ e. ne (en ∙ e))))
-
-  pub bars-more : (bars : List ℕ) (i j old bar : ℕ) → suc i ≡ j → j ≤ k + 1 → k ≤ 64 → Bars near keys k bars old j → bar ≡ bar-key near keys k i → Bars near keys k (set bars i bar) bar i
-  bars-more bars i j old bar s l fits w e =
+  pub bars-more :
+      (bars : List ℕ) (i j bar old n : ℕ) →
+      suc i ≡ j →
+      j ≤ k + 1 →
+      k ≤ 64 →
+      n ≡ near-to near k i →
+      Bars near keys k bars old j →
+      Turn (n ≡ i) (bar ≡ least-key near keys i k) (n ≡ i → ⊥) (bar ≡ old) →
+      Bars near keys k (set bars i bar) bar i
+  bars-more bars i j bar old n s l fits en w came =
       record {
         size = length-set bars i bar ∙ w .size;
         next = e;
-        made = λ t a b. ⊎-elim (λ h. here t h) (λ h. getD-set-other bars i t bar 0 h ∙ w .made t (omega arith) b) (same-or-not t i);
+        made = λ t a b. ⊎-elim (λ h. here t h) (λ h. above t h a b) (same-or-not t i);
         past = λ t a. getD-set-other bars i t bar 0 (λ h. omega arith) ∙ w .past t a;
       }
     where
+      e : bar ≡ bar-key near keys k i
+      e = bar-here i j bar old n s l en (w .next) came
+
       here : (t : ℕ) → t ≡ i → getD (set bars i bar) t 0 ≡ bar-key near keys k t
       here t h = rw h (getD-set-same bars i bar 0 (omega (arith, w .size)) ∙ e)
 
-  pub bars-all : (bars : List ℕ) (bar j : ℕ) → k ≤ 64 → j ≤ 0 → Bars near keys k bars bar j → bars ≡ table 65 (suc k) 0 (bar-key near keys k)
+      above : (t : ℕ) → (t ≡ i → ⊥) → i ≤ t → t ≤ k → getD (set bars i bar) t 0 ≡ bar-key near keys k t
+      above t h a b = getD-set-other bars i t bar 0 h ∙ w .made t (omega arith) b
+
+  pub bars-all :
+      (bars : List ℕ) (bar j : ℕ) →
+      k ≤ 64 →
+      j ≤ 0 →
+      Bars near keys k bars bar j →
+      bars ≡ table 65 (suc k) 0 (bar-key near keys k)
   bars-all bars bar j fits z w =
       ext-getD
       0
       bars
       (table 65 (suc k) 0 (bar-key near keys k))
       (w .size ∙ sym (table-length 65 (suc k) 0 (bar-key near keys k) (omega arith)))
-      (λ i l. ⊎-elim (λ h. w .made i (omega arith) h ∙ sym (table-at 65 (suc k) 0 (bar-key near keys k) i (omega arith))) (λ h. w .past i h ∙ sym (table-past 65 (suc k) 0 (bar-key near keys k) i (omega arith))) (le-or-lt i k))
+      (λ i l. ⊎-elim (λ h. layer i h) (λ h. past i h) (le-or-lt i k))
+    where
+      layer : (i : ℕ) → i ≤ k → getD bars i 0 ≡ getD (table 65 (suc k) 0 (bar-key near keys k)) i 0
+      layer i h = w .made i (omega arith) h ∙ sym (table-at 65 (suc k) 0 (bar-key near keys k) i (omega arith))
+
+      past : (i : ℕ) → k < i → getD bars i 0 ≡ getD (table 65 (suc k) 0 (bar-key near keys k)) i 0
+      past i h = w .past i h ∙ sym (table-past 65 (suc k) 0 (bar-key near keys k) i (omega arith))

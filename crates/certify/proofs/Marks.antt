@@ -48,22 +48,24 @@ module _ (N : ℕ) (held : List ℕ) (marks : List Bool) (s : ℕ) (l : s < leng
   page-is : getD held s no-page ≡ page
   page-is = entry-any held s no-page 0 l
 
-  -- the pages of the earlier slots are marked
-  earlier : (t : ℕ) → t < s → getD held t no-page ≡ page → getD marks page false ≡ true
-  earlier t lt e = w .marked page ∙ seated-in held s page t lt e
-
   pub marked-more : N ≤ 1024 → page < N → getD marks page false ≡ false → Marked N held (set marks page true) (s + 1)
   marked-more fits lp fresh =
       rw (add-one s)
       (record {
         size = length-set marks page true ∙ w .size;
         marked = λ q. ⊎-elim (λ h. here q h) (λ h. other q h) (same-or-not q page);
-        below = λ t lt. ⊎-elim (λ h. omega (arith, page-is, ap (λ (i : ℕ). getD held i no-page) h)) (λ h. w .below t (omega arith)) (same-or-not t s);
+        below = λ t lt. ⊎-elim (λ h. omega (arith, at t h)) (λ h. w .below t (omega arith)) (same-or-not t s);
         differ = differ;
       })
     where
+      at : (t : ℕ) → t ≡ s → getD held t no-page ≡ page
+      at t h = ap (λ (i : ℕ). getD held i no-page) h ∙ page-is
+
       here : (q : ℕ) → q ≡ page → getD (set marks page true) q false ≡ seated held (suc s) q
-      here q h = rw h (getD-set-same marks page true false (omega (arith, w .size)) ∙ sym (seated-in held (suc s) page s (omega arith) page-is))
+      here q h =
+          rw h
+          (getD-set-same marks page true false (omega (arith, w .size))
+          ∙ sym (seated-in held (suc s) page s (omega arith) page-is))
 
       there : (q : ℕ) → seated held s q ≡ true → seated held (suc s) q ≡ true
       there q e = let (t, lt, u) = seated-was held s q e in seated-in held (suc s) q t (omega arith) u
@@ -71,7 +73,7 @@ module _ (N : ℕ) (held : List ℕ) (marks : List Bool) (s : ℕ) (l : s < leng
       back : (q : ℕ) → (q ≡ page → ⊥) → (t : ℕ) × (t < suc s) × (getD held t no-page ≡ q) → seated held s q ≡ true
       back q ne u =
           ⊎-elim
-          (λ h. absurd (ne (sym (u .2) ∙ (ap (λ (i : ℕ). getD held i no-page) h ∙ page-is))))
+          (λ h. absurd (ne (sym (u .2) ∙ at (u .0) h)))
           (λ h. seated-in held s q (u .0) (omega (arith, u .1)) (u .2))
           (same-or-not (u .0) s)
 
@@ -81,15 +83,20 @@ module _ (N : ℕ) (held : List ℕ) (marks : List Bool) (s : ℕ) (l : s < leng
           ∙ (w .marked q
           ∙ same-test (seated held s q) (seated held (suc s) q) (there q) (λ e. back q ne (seated-was held (suc s) q e)))
 
+      -- no earlier slot holds the page
+      new : (t : ℕ) → t < s → getD held t no-page ≡ page → ⊥
+      new t lt e = clash (w .marked page ∙ seated-in held s page t lt e) fresh
+
       differ : Different held (suc s)
       differ t u lt lu e =
           ⊎-elim
-          (λ ht. ⊎-elim (λ hu. ht ∙ sym hu) (λ hu. absurd (clash (earlier u (omega arith) (sym e ∙ at t ht)) fresh)) (same-or-not u s))
-          (λ ht. ⊎-elim (λ hu. absurd (clash (earlier t (omega arith) (e ∙ at u hu)) fresh)) (λ hu. w .differ t u (omega arith) (omega arith) e) (same-or-not u s))
+          (λ ht. ⊎-elim (λ hu. ht ∙ sym hu) (λ hu. absurd (new u (omega arith) (sym e ∙ at t ht))) (same-or-not u s))
+          (λ ht.
+          ⊎-elim
+          (λ hu. absurd (new t (omega arith) (e ∙ at u hu)))
+          (λ hu. w .differ t u (omega arith) (omega arith) e)
+          (same-or-not u s))
           (same-or-not t s)
-        where
-          at : (t : ℕ) → t ≡ s → getD held t no-page ≡ page
-          at t h = ap (λ (i : ℕ). getD held i no-page) h ∙ page-is
 
   -- a number that is no page, and a page that stands twice
   pub no-seat : (k : ℕ) → s < k → N ≤ page → false ≡ seats-fit N k held
@@ -121,4 +128,7 @@ module _ (N k : ℕ) (held : List ℕ) (marks : List Bool) (s : ℕ) (w : Marked
       none-past q h u = omega (arith, u .2, done .below (u .0) (u .1))
 
       past : (q : ℕ) → N ≤ q → getD marks q false ≡ getD (table 1024 N false (seated held k)) q false
-      past q h = done .marked q ∙ (isnt (seated held k q) (λ e. none-past q h (seated-was held k q e)) ∙ sym (table-past 1024 N false (seated held k) q h))
+      past q h =
+          done .marked q
+          ∙ (isnt (seated held k q) (λ e. none-past q h (seated-was held k q e))
+          ∙ sym (table-past 1024 N false (seated held k) q h))

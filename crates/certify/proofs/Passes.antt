@@ -68,3 +68,16 @@ stop-left a b e = rw (sym e)
 
 pub go-on : (r a b : Bool) → true ≡ a → r ≡ b → r ≡ a && b
 go-on r a b e h = rw (sym e) h
+
+-- three parts: r, s and t are what the code finds of a, b and c, and a part that fails ends the test
+module _ (a b c r : Bool) (er : r ≡ a) where
+  pub first-fails : not r ≡ true → false ≡ a && b && c
+  first-fails h = stop-left (a && b) c (stop-left a b (refused r a er h))
+
+  module _ (s : Bool) (passed : not r ≡ false) (es : s ≡ b) where
+    pub second-fails : not s ≡ true → false ≡ a && b && c
+    second-fails h = stop-left (a && b) c (go-on false a b (granted r a er passed) (refused s b es h))
+
+    pub third-decides : (t : Bool) → not s ≡ false → t ≡ c → t ≡ a && b && c
+    third-decides t h et =
+        go-on t (a && b) c (go-on true a b (granted r a er passed) (granted s b es h)) et

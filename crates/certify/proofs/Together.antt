@@ -35,37 +35,53 @@ pub record Made (N k : ℕ) (layer priority held near keys bars : List ℕ) (mar
   pub by-mark : marks ≡ table 1024 N false (seated held k)
   pub bounded : (q : ℕ) → q < N → getD layer q 0 ≤ k
 
-module _ (N k : ℕ) (layer priority held near keys bars : List ℕ) (marks : List Bool) (w : Made N k layer priority held near keys bars marks) where
-  abbrev near₀ : List ℕ
-  near₀ = near-of layer held k
+module _
+    (N k : ℕ)
+    (layer priority held near keys bars : List ℕ)
+    (marks : List Bool)
+    (w : Made N k layer priority held near keys bars marks)
+  where
+    abbrev near₀ : List ℕ
+    near₀ = near-of layer held k
 
-  abbrev keys₀ : List ℕ
-  keys₀ = keys-of priority held k
+    abbrev keys₀ : List ℕ
+    keys₀ = keys-of priority held k
 
-  late-is : each N (timely marks layer priority bars) ≡ none-late N k layer priority (seated held k) near₀ keys₀
-  unfolding none-late
-  late-is = each-same N (timely marks layer priority bars) late page
-    where
-      late : ℕ → Bool
-      late q = seated held k q || eqb (getD layer q 0) 0 || ltb (key-of (getD priority q 0) q) (bar-key near₀ keys₀ k (getD layer q 0))
+    late-is : each N (timely marks layer priority bars) ≡ none-late N k layer priority (seated held k) near₀ keys₀
+    unfolding none-late
+    late-is = each-same N (timely marks layer priority bars) late page
+      where
+        late : ℕ → Bool
+        late q =
+            seated held k q
+            || eqb (getD layer q 0) 0
+            || ltb (key-of (getD priority q 0) q) (bar-key near₀ keys₀ k (getD layer q 0))
 
-      marked : (q : ℕ) → q < N → getD marks q false ≡ seated held k q
-      marked q l = rw (w .by-mark) (table-at 1024 N false (seated held k) q l)
+        marked : (q : ℕ) → q < N → getD marks q false ≡ seated held k q
+        marked q l = rw (w .by-mark) (table-at 1024 N false (seated held k) q l)
 
-      bar : (i : ℕ) → i ≤ k → getD bars i 0 ≡ bar-key near₀ keys₀ k i
-      bar i l = rw (w .by-bar, w .by-near, w .by-key) (table-at 65 (suc k) 0 (bar-key near₀ keys₀ k) i (omega arith))
+        bar : (i : ℕ) → i ≤ k → getD bars i 0 ≡ bar-key near₀ keys₀ k i
+        bar i l = rw (w .by-bar, w .by-near, w .by-key) (table-at 65 (suc k) 0 (bar-key near₀ keys₀ k) i (omega arith))
 
-      page : (q : ℕ) → q < N → timely marks layer priority bars q ≡ late q
-      page q l = rw (marked q l, bar (getD layer q 0) (w .bounded q l))
+        page : (q : ℕ) → q < N → timely marks layer priority bars q ≡ late q
+        page q l = rw (marked q l, bar (getD layer q 0) (w .bounded q l))
 
-  pub certificate-not : (r : Bool) → r ≡ each N (timely marks layer priority bars) → not r ≡ true → false ≡ certificate N k layer priority held
-  unfolding certificate
-  certificate-not r e h = stop-left _ _ (refused r _ (e ∙ late-is) h)
+    pub certificate-not :
+        (r : Bool) →
+        r ≡ each N (timely marks layer priority bars) →
+        not r ≡ true →
+        false ≡ certificate N k layer priority held
+    unfolding certificate
+    certificate-not r e h = stop-left _ _ (refused r _ (e ∙ late-is) h)
 
-  pub certificate-is :
-      (t r : Bool) → t ≡ each N (timely marks layer priority bars) → not t ≡ false → r ≡ room near k → r ≡ certificate N k layer priority held
-  unfolding certificate
-  certificate-is t r e h er = go-on r _ _ (granted t _ (e ∙ late-is) h) (er ∙ ap (λ (l : List ℕ). room l k) (w .by-near))
+    pub certificate-is :
+        (t r : Bool) →
+        t ≡ each N (timely marks layer priority bars) →
+        not t ≡ false →
+        r ≡ room near k →
+        r ≡ certificate N k layer priority held
+    unfolding certificate
+    certificate-is t r e h er = go-on r _ _ (granted t _ (e ∙ late-is) h) (er ∙ ap (λ (l : List ℕ). room l k) (w .by-near))
 
 -- ---- all clauses
 

@@ -148,6 +148,7 @@ module _ (N k : ℕ) (layer priority held : List ℕ) where
   abbrev same : Pages
   same q = Bool·beq (seated held k q) (selection q)
 
+  -- the tests of `tables-sound`, in its order
   abbrev F : Bool
   F = layers-fit N k layer
 

@@ -147,7 +147,8 @@ fn ends_clear<'a>(
     layers::no_page_from(held, slots)
 }
 
-// The certificate: there is room for the pages in the slots, and no page outside them is too late.
+// The certificate: no page outside the slots is too late, and there is room for those in them. `tables` also has to know that
+// priorities are 16 bits wide, which the reads of `none_late` tell.
 fn certificate<'a>(
     layer: &'a [u8; 1024],
     priority: &'a [u16; 1024],

@@ -16,7 +16,8 @@ use Rattle.paging.specs.Sets.{count}
 use Rattle.paging.specs.Layers.{in-layer}
 use Rattle.paging.specs.Tests.{truth}
 use Rattle.selection.specs.Marks.{marks}
-use Rattle.run.specs.Numbers.{layer, most-pages}
+use Rattle.begin.specs.Limits.{most-pages}
+use Rattle.run.specs.Numbers.{layer}
 use Rattle.run.specs.Cached.{selection}
 use Rattle.run.specs.Sound.{Sound, sound}
 use Rattle.run.specs.Questions.{refusal, layer-answer, certain, certain-answer, selection-answer}

@@ -1,28 +1,15 @@
 -- Document 01, 'Numbers': the limits, the blank run, and the names of a run's parts. Assumes nothing.
-use mathlib.Core.Bool.{Bool, _&&_}
+use mathlib.Core.Bool.{Bool}
 use Prim.Native.Nat.{ℕ}
 use lib.ListN.{getD, replicate}
-use Rattle.paging.specs.Sets.{_≤?_}
 use Rattle.ranking.specs.Outranks.{outranks}
 use Rattle.slots.specs.Slots.{no-page}
+use Rattle.begin.specs.Limits.{most-pages, most-slots}
 use Rattle.run.specs.declared.Run.{Run}
 
--- Pages N: 1 to 1024. Slots k: 1 to 64 and at most N. Served requests in a run: at most 1,000,000.
-abbrev pub most-pages : ℕ
-most-pages = 1024
-
-abbrev pub most-slots : ℕ
-most-slots = 64
-
+-- Served requests in a run: at most 1,000,000. (N and k have theirs in Limits of the crate `begin`.)
 abbrev pub most-served : ℕ
 most-served = 1_000_000
-
--- N within its limits; k within its own.
-unfoldable pub pages-fit : ℕ → Bool
-pages-fit N = 1 ≤? N && N ≤? most-pages
-
-unfoldable pub slots-fit : ℕ → ℕ → Bool
-slots-fit N k = 1 ≤? k && k ≤? most-slots && k ≤? N
 
 -- The blank run has 0 pages, 0 slots, zero counts, all layers and priorities zero, no page in a slot.
 unfoldable pub blank-run : Run

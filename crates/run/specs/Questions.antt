@@ -2,13 +2,14 @@
 use mathlib.Core.Bool.{false, _&&_}
 use Prim.Native.Nat.{ℕ}
 use lib.ListN.{replicate}
-use Rattle.paging.specs.Sets.{_=?_, _<?_, _≤?_, if_then_else_, unless_give_else_, Pages, count, table}
-use Rattle.paging.specs.Layers.{in-layer}
 use Rattle.run.specs.declared.Run.{Run}
 use Rattle.run.specs.declared.LayerAnswer.{LayerAnswer}
 use Rattle.run.specs.declared.CertainAnswer.{CertainAnswer}
 use Rattle.run.specs.declared.SelectionAnswer.{SelectionAnswer}
-use Rattle.run.specs.Numbers.{most-pages, layer}
+use Rattle.paging.specs.Sets.{Pages, _=?_, _<?_, _≤?_, if_then_else_, unless_give_else_, count, table}
+use Rattle.paging.specs.Layers.{in-layer}
+use Rattle.begin.specs.Limits.{most-pages}
+use Rattle.run.specs.Numbers.{layer}
 use Rattle.run.specs.Cached.{selection}
 use Rattle.run.specs.Sound.{sound}
 

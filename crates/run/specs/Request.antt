@@ -3,13 +3,15 @@ use mathlib.Core.List.{List}
 use mathlib.Core.Option.{Option, none, some}
 use Prim.Native.Nat.{ℕ, _+_}
 use lib.ListN.{set}
-use Rattle.paging.specs.Sets.{_=?_, _<?_, if_then_else_, unless_give_else_, bit, table}
-use Rattle.paging.specs.Layers.{next}
 use Rattle.run.specs.declared.Run.{Run}
 use Rattle.run.specs.declared.Served.{Served}
 use Rattle.serve.specs.declared.Event.{Event}
 use Rattle.serve.specs.declared.Event.the-variants.{Hit, Miss, Refused}
-use Rattle.run.specs.Numbers.{most-pages, most-served, layer}
+use Rattle.paging.specs.Sets.{_=?_, _<?_, if_then_else_, unless_give_else_, bit, table}
+use Rattle.paging.specs.Layers.{next}
+use Rattle.paging.specs.Certificate.{held}
+use Rattle.begin.specs.Limits.{most-pages}
+use Rattle.run.specs.Numbers.{layer, most-served}
 use Rattle.run.specs.Cached.{cached, slot-of, victim-of}
 use Rattle.run.specs.Sound.{sound}
 

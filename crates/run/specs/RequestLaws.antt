@@ -27,7 +27,8 @@ use Rattle.paging.specs.Theorems.{miss-selection}
 use Rattle.ranking.specs.Order.{outranks-ranking}
 use Rattle.slots.specs.Slots.{no-page, seated}
 use Rattle.slots.specs.Laws.{seated-in, seated-was, seat-some, seat-found}
-use Rattle.run.specs.Numbers.{layer, most-pages, most-served, priority, in-slot, ranks}
+use Rattle.begin.specs.Limits.{most-pages}
+use Rattle.run.specs.Numbers.{layer, most-served, priority, in-slot, ranks}
 use Rattle.run.specs.Cached.{cached, slot-of, selection, victim-of}
 use Rattle.run.specs.Sound.{Sound}
 use Rattle.run.specs.Request.{counted}

@@ -11,7 +11,6 @@ use Rattle.run.specs.declared.Run.{Run}
 use Rattle.run.specs.declared.Served.{Served}
 use Rattle.paging.specs.Sets.{_<?_, unless_give_else_}
 use Rattle.paging.specs.Tests.{truth}
-use Rattle.certify.specs.Test.{room}
 use Rattle.run.specs.Numbers.{most-served}
 use Rattle.run.specs.Sound.{Sound, sound}
 use Rattle.run.specs.Request.{served, requested}

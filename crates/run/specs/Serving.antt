@@ -20,8 +20,9 @@ use Rattle.paging.specs.Tables.{table-length, table-at, table-past}
 use Rattle.paging.specs.Certificate.{held}
 use Rattle.layers.specs.Asked.{asked}
 use Rattle.layers.specs.Laws.{asked-length, asked-at, asked-past}
+use Rattle.begin.specs.Limits.{most-pages}
 use Rattle.serve.specs.Step.{Ready, missed, replaced, event-of, held-after, Stepped}
-use Rattle.run.specs.Numbers.{layer, most-pages, most-served, in-slot}
+use Rattle.run.specs.Numbers.{layer, most-served, in-slot}
 use Rattle.run.specs.Cached.{cached, victim-of}
 use Rattle.run.specs.Sound.{Sound}
 use Rattle.run.specs.Request.{served, counted, answer, refused, with-hit, with-miss}

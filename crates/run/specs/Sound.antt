@@ -3,11 +3,12 @@ use mathlib.Core.Bool.{Bool, _&&_, Bool·beq}
 use mathlib.Core.Path.{_≡_}
 use Prim.Native.Nat.{ℕ, suc, _+_, _≤_, _<_}
 use lib.ListN.{drop}
+use Rattle.run.specs.declared.Run.{Run}
 use Rattle.paging.specs.Sets.{_=?_, _<?_, _≤?_, _⇒_, count, each, any, only}
 use Rattle.paging.specs.Layers.{in-layer}
 use Rattle.slots.specs.Slots.{no-page}
-use Rattle.run.specs.declared.Run.{Run}
-use Rattle.run.specs.Numbers.{most-pages, most-slots, most-served, pages-fit, slots-fit, layer, priority, in-slot}
+use Rattle.begin.specs.Limits.{most-pages, most-slots, pages-fit, slots-fit}
+use Rattle.run.specs.Numbers.{layer, most-served, priority, in-slot}
 use Rattle.run.specs.Cached.{cached, selection}
 
 pub record Sound (r : Run) : Type 0 where

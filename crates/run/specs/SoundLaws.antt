@@ -10,10 +10,12 @@ use Rattle.run.specs.declared.Run.{Run}
 use borrow.Author.Tests.{eqb-true, eq-eqb, leb-true, le-leb, ltb-true, lt-ltb}
 use Rattle.paging.specs.Sets.{_⇒_, count, each, any, only}
 use Rattle.paging.specs.Layers.{in-layer}
-use Rattle.paging.specs.Tests.{and-in, and-left, and-right, implies-true, implies-in, beq-true, beq-in, before}
+use Rattle.paging.specs.Tests.{and-left, and-right, implies-true, implies-in, beq-true, beq-in, before}
 use Rattle.paging.specs.Words.{each-true, each-in, any-true, any-in, only-true, only-in}
 use Rattle.slots.specs.Slots.{no-page}
-use Rattle.run.specs.Numbers.{layer, most-pages, most-slots, most-served, pages-fit, slots-fit, in-slot}
+use Rattle.begin.specs.Limits.{pages-fit, slots-fit}
+use Rattle.begin.specs.LimitLaws.{fit-pages, fit-slots, pages-in, slots-in}
+use Rattle.run.specs.Numbers.{layer, most-served, in-slot}
 use Rattle.run.specs.Cached.{cached, selection}
 use Rattle.run.specs.Sound.{Sound, sound}
 
@@ -89,24 +91,6 @@ clauses r e = unpack (c1 r) (c2 r) (c3 r) (c4 r) (c5 r) (c6 r) (c7 r) (c8 r) (c9
 tested : (r : Run) → Clauses r → sound r ≡ true
 unfolding sound
 tested r t = rw (t .0, t .1, t .2, t .3, t .4, t .5, t .6, t .7, t .8, t .9, t .10, t .11, t .12, t .13)
-
-pub fit-pages : (N : ℕ) → pages-fit N ≡ true → (1 ≤ N) × (N ≤ most-pages)
-unfolding pages-fit
-fit-pages N e = (leb-true 1 N (and-left (leb 1 N) (leb N most-pages) e), leb-true N most-pages (and-right (leb 1 N) (leb N most-pages) e))
-
-pub fit-slots : (N k : ℕ) → slots-fit N k ≡ true → (1 ≤ k) × (k ≤ most-slots) × (k ≤ N)
-unfolding slots-fit
-fit-slots N k e =
-    let h = and-left (leb 1 k && leb k most-slots) (leb k N) e in
-    (leb-true 1 k (and-left (leb 1 k) (leb k most-slots) h), leb-true k most-slots (and-right (leb 1 k) (leb k most-slots) h), leb-true k N (and-right (leb 1 k && leb k most-slots) (leb k N) e))
-
-pub pages-in : (N : ℕ) → 1 ≤ N → N ≤ most-pages → pages-fit N ≡ true
-unfolding pages-fit
-pages-in N a b = and-in (leb 1 N) (leb N most-pages) (le-leb 1 N a) (le-leb N most-pages b)
-
-pub slots-in : (N k : ℕ) → 1 ≤ k → k ≤ most-slots → k ≤ N → slots-fit N k ≡ true
-unfolding slots-fit
-slots-in N k a b c = and-in (leb 1 k && leb k most-slots) (leb k N) (and-in (leb 1 k) (leb k most-slots) (le-leb 1 k a) (le-leb k most-slots b)) (le-leb k N c)
 
 facts : (r : Run) → Clauses r → Sound r
 facts r t =

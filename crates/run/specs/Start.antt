@@ -2,12 +2,13 @@
 use mathlib.Core.List.{List}
 use Prim.Native.Nat.{ℕ}
 use lib.ListN.{length}
-use Rattle.paging.specs.Sets.{_=?_, unless_give_else_}
-use Rattle.ranking.specs.Defaults.{default-priorities}
-use Rattle.begin.specs.Begin.{below, different, start-layers, start-priorities, start-slots}
 use Rattle.run.specs.declared.Run.{Run}
 use Rattle.run.specs.declared.Started.{Started}
-use Rattle.run.specs.Numbers.{pages-fit, slots-fit, blank-run}
+use Rattle.paging.specs.Sets.{_=?_, unless_give_else_}
+use Rattle.ranking.specs.Defaults.{default-priorities}
+use Rattle.begin.specs.Limits.{pages-fit, slots-fit}
+use Rattle.begin.specs.Begin.{below, different, start-layers, start-priorities, start-slots}
+use Rattle.run.specs.Numbers.{blank-run}
 
 -- L_i = {p_i}; L_0 holds every other page. Page p_i goes into slot i-1. All counts are 0.
 unfoldable pub start-run : ℕ → ℕ → List ℕ → List ℕ → Run

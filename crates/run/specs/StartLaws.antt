@@ -22,13 +22,14 @@ use Rattle.paging.specs.Theorems.{selection-justified}
 use Rattle.ranking.specs.Order.{outranks-ranking}
 use Rattle.slots.specs.Slots.{no-page}
 use Rattle.slots.specs.Laws.{seated-in, seated-was}
+use Rattle.begin.specs.Limits.{most-pages, most-slots, pages-fit, slots-fit}
 use Rattle.begin.specs.Begin.{below, different, start-layers, start-priorities, start-slots}
+use Rattle.begin.specs.LimitLaws.{fit-pages, fit-slots}
 use Rattle.begin.specs.Laws.{below-true, different-true}
-use Rattle.run.specs.Numbers.{layer, most-pages, most-slots, pages-fit, slots-fit, priority, in-slot, ranks}
+use Rattle.run.specs.Numbers.{layer, priority, in-slot, ranks}
 use Rattle.run.specs.Cached.{cached}
 use Rattle.run.specs.Sound.{Sound}
 use Rattle.run.specs.Start.{start-run, started}
-use Rattle.run.specs.SoundLaws.{fit-pages, fit-slots}
 
 start-layer-past : (N : ℕ) (ps : List ℕ) (q : ℕ) → N ≤ q → getD (start-layers N ps) q 0 ≡ 0
 unfolding start-layers

@@ -1,15 +1,16 @@
 -- The soundness test as the code makes it: the limits, the counts, then the tables. Assumes nothing.
 use mathlib.Core.Bool.{Bool, true, false}
-use mathlib.Core.Path.{_≡_, sym}
-use Prim.Native.Nat.{_+_, _≤_}
+use mathlib.Core.Path.{_≡_, sym, _∙_}
+use Prim.Native.Nat.{ℕ, _+_, _≤_}
 use Rattle.run.specs.declared.Run.{Run}
 use Rattle.paging.specs.Tests.{isnt, same-test}
+use Rattle.begin.specs.Limits.{limits-refusal}
+use Rattle.begin.specs.LimitLaws.{Limits, limits-none}
 use Rattle.certify.specs.Tables.{tables-sound}
 use Rattle.certify.specs.Laws.{sound-clauses, clauses-sound}
 use Rattle.run.specs.Numbers.{most-served}
 use Rattle.run.specs.Sound.{Sound, sound}
 use Rattle.run.specs.SoundLaws.{sound-iff}
-use Rattle.run.specs.Starting.{Limits}
 use Rattle.run.specs.RequestLaws.{run-layered, run-cached}
 
 -- a run that breaks a clause is not sound
@@ -67,3 +68,8 @@ module _
         (sound r)
         (λ e. sound-iff r .1 (there e))
         (λ e. back (sound-iff r .0 e))
+
+-- limits that are refused are no sound run's
+pub unsound-limits : (r : Run) (n : ℕ) → n ≡ limits-refusal (r .pages) (r .slots) → (n ≡ 0 → ⊥) → false ≡ sound r
+unsound-limits r n e ne =
+    unsound r (λ w. ne (e ∙ sym (limits-none (r .pages) (r .slots) (w .pages .0, w .pages .1, w .slots .0, w .slots .1, w .slots .2))))

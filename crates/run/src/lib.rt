@@ -79,20 +79,9 @@ impl Run {
     fn list_refusal(pages: usize, slots: usize, list: &[u16]) -> u8
         ensures { λ r. ⌜ r ≡ list-refusal pages slots (now (list .entry)) ⌝ }
     {
-        if pages < 1 {
-            return 2;
-        }
-        if Run::MAX_PAGES < pages {
-            return 2;
-        }
-        if slots < 1 {
-            return 3;
-        }
-        if Run::MAX_SLOTS < slots {
-            return 3;
-        }
-        if pages < slots {
-            return 3;
+        let refusal = begin::limits_refusal(pages, slots);
+        if refusal != 0 {
+            return refusal;
         }
         if list.len() != slots {
             return 4;
@@ -249,19 +238,7 @@ impl Run {
     {
         let pages = self.pages;
         let slots = self.slots;
-        if pages < 1 {
-            return false;
-        }
-        if Run::MAX_PAGES < pages {
-            return false;
-        }
-        if slots < 1 {
-            return false;
-        }
-        if Run::MAX_SLOTS < slots {
-            return false;
-        }
-        if pages < slots {
+        if begin::limits_refusal(pages, slots) != 0 {
             return false;
         }
         if Run::MAX_SERVED < self.served {

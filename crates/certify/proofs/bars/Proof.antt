@@ -1,11 +1,10 @@
--- `certify::bars` meets its contract. The loop's invariant: the entries from j on are the bars of their layers, and `bar` is that of j.
--- Assumes nothing.
+-- `certify::bars` meets its contract. The loop's invariant: the entries from j on are the bars of their layers, and `bar` is that
+-- of j. Assumes nothing.
 use Prim.Native.Nat.{_+_, _-_, _≤_}
-use mathlib.Core.Path.{_≡_, _∙_}
+use mathlib.Core.Path.{_∙_}
 use borrow.Author.Needs.{needs}
-use mathlib.Core.Logic.{⊎-elim}
-use Rattle.certify.specs.Test.{bar-key}
-use Rattle.certify.proofs.LayerBars.{Bars, bars-none, bar-full, bar-next, bars-more, bars-all}
+use mathlib.Core.Logic.{inl, inr, ⊎-elim}
+use Rattle.certify.proofs.LayerBars.{Bars, bars-none, bars-more, bars-all}
 use Rattle.certify.proofs.bars.Statement.{statement}
 use Rattle.certify.proofs.bars.Tie as tie
 
@@ -48,16 +47,26 @@ array-write-bars c = search needs
 loop-less : tie.Need-loop-less Inv-loop μ-loop
 loop-less c = search needs
 
--- the bar of this turn's layer
-turn : (c : tie.Joined1 Inv-loop μ-loop) → c .if1 .bar ≡ bar-key (c .before .before .before .before .before .args .near .now) (c .before .before .before .before .before .args .keys .now) (c .before .before .before .before .before .args .slots) (c .before .before .before .loop .j - 1)
-turn c =
-    ⊎-elim
-    (λ w. bar-full _ _ _ _ _ _ (search needs) (c .before .count-to .ensures) (w .0 .taken) (w .2 ∙ w .1 .ensures))
-    (λ w. bar-next _ _ _ _ _ _ _ (search needs) (c .before .count-to .ensures) (w .0 .left) (w .1 ∙ c .before .before .before .loop .inv .1 .next))
-    (c .if1 .came)
-
 loop-again : tie.Need-loop-again Inv-loop μ-loop
-loop-again c = (search needs, bars-more _ _ _ _ _ _ _ _ (search needs) (search needs) (search needs) (c .before .before .before .loop .inv .1) (turn c))
+loop-again c = (
+  search needs,
+  bars-more
+      _
+      _
+      _
+      _
+      _
+      _
+      _
+      _
+      _
+      (search needs)
+      (search needs)
+      (search needs)
+      (c .before .count-to .ensures)
+      (c .before .before .before .loop .inv .1)
+      (⊎-elim (λ w. inl (w .0 .taken, w .2 ∙ w .1 .ensures)) (λ w. inr (w .0 .left, w .1)) (c .if1 .came)),
+)
 
 returns : tie.Need-returns Inv-loop μ-loop
 returns c = bars-all _ _ _ _ _ _ (search needs) (search needs) (c .before .loop .inv .1)

@@ -24,24 +24,46 @@ none-late-requires c κs = (search needs, λ q l. omega (arith, c .before .befor
 -- the tables by slots, layers and pages are made
 made :
     (c : tie.After-bars) →
-    (let a = c .before .before .before .before .before .args in Made (a .pages) (a .slots) (a .layer .now) (a .priority .now) (a .held .now) (c .before .before .before .before .nears .result) (c .before .before .before .keys .result) (c .bars .result) (a .marks .now))
+    (let keys = c .before .before .before in
+    let near = keys .before in
+    let a = near .before .args in
+    Made
+    (a .pages)
+    (a .slots)
+    (a .layer .now)
+    (a .priority .now)
+    (a .held .now)
+    (near .nears .result)
+    (keys .keys .result)
+    (c .bars .result)
+    (a .marks .now))
 made c =
+    let keys = c .before .before .before in
+    let near = keys .before in
     record {
-      by-near = c .before .before .before .before .nears .ensures;
-      by-key = c .before .before .before .keys .ensures;
+      by-near = near .nears .ensures;
+      by-key = keys .keys .ensures;
       by-bar = c .bars .ensures;
-      by-mark = c .before .before .before .before .before .pre .0 .2;
-      bounded = c .before .before .before .before .before .pre .1 .0;
+      by-mark = near .before .pre .0 .2;
+      bounded = near .before .pre .1 .0;
     }
 
 returns : tie.Need-returns
-returns c = (certificate-not _ _ _ _ _ _ _ _ _ (made (c .before .before .before)) _ (c .before .none-late .ensures .0) (c .if1 .taken), c .before .none-late .ensures .1)
+returns c =
+    let late = c .before in
+    let says = late .none-late .ensures in
+    (certificate-not _ _ _ _ _ _ _ _ _ (made (late .before .before)) _ (says .0) (c .if1 .taken), says .1)
 
 has-room-requires : tie.Need-has-room-requires
 has-room-requires c κs = search needs
 
 returns-2 : tie.Need-returns-2
-returns-2 c = (certificate-is _ _ _ _ _ _ _ _ _ (made (c .before .before .before .before .before)) _ _ (c .before .before .before .none-late .ensures .0) (c .before .before .if1 .left) (c .has-room .ensures), c .before .before .before .none-late .ensures .1)
+returns-2 c =
+    let passed = c .before .before in
+    let late = passed .before in
+    let says = late .none-late .ensures in
+    let tables = made (late .before .before) in
+    (certificate-is _ _ _ _ _ _ _ _ _ tables _ _ (says .0) (passed .if1 .left) (c .has-room .ensures), says .1)
 
 pub certificate-spec : {M : Type 1} → statement M
 certificate-spec =

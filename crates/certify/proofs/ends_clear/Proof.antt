@@ -1,7 +1,7 @@
 -- `certify::ends_clear` meets its contract: it makes the parts of the test one by one. Assumes nothing.
 use borrow.Author.Needs.{needs}
 use Rattle.certify.specs.Test.{ends-clear}
-use Rattle.certify.proofs.Passes.{stop-left, go-on, refused, granted}
+use Rattle.certify.proofs.Passes.{first-fails, second-fails, third-decides}
 use Rattle.certify.proofs.ends_clear.Statement.{statement}
 use Rattle.certify.proofs.ends_clear.Tie as tie
 
@@ -10,21 +10,37 @@ no-layer-from-requires c κs = search needs
 
 returns : tie.Need-returns
 unfolding ends-clear
-returns c = stop-left _ _ (stop-left _ _ (refused _ _ (c .before .no-layer-from .ensures) (c .if1 .taken)))
+returns c = first-fails _ _ _ _ (c .before .no-layer-from .ensures) (c .if1 .taken)
 
 no-priority-from-requires : tie.Need-no-priority-from-requires
 no-priority-from-requires c κs = search needs
 
 returns-2 : tie.Need-returns-2
 unfolding ends-clear
-returns-2 c = stop-left _ _ (go-on _ _ _ (granted _ _ (c .before .before .before .no-layer-from .ensures) (c .before .before .if1 .left)) (refused _ _ (c .before .no-priority-from .ensures) (c .if2 .taken)))
+returns-2 c =
+    let one = c .before .before in
+    second-fails _ _ _ _ (one .before .no-layer-from .ensures) _ (one .if1 .left) (c .before .no-priority-from .ensures) (c .if2 .taken)
 
 no-page-from-requires : tie.Need-no-page-from-requires
 no-page-from-requires c κs = search needs
 
 returns-3 : tie.Need-returns-3
 unfolding ends-clear
-returns-3 c = go-on _ _ _ (go-on _ _ _ (granted _ _ (c .before .before .before .before .no-layer-from .ensures) (c .before .before .before .if1 .left)) (granted _ _ (c .before .before .no-priority-from .ensures) (c .before .if2 .left))) (c .no-page-from .ensures)
+returns-3 c =
+    let two = c .before in
+    let one = two .before .before in
+    third-decides
+    _
+    _
+    _
+    _
+    (one .before .no-layer-from .ensures)
+    _
+    (one .if1 .left)
+    (two .before .no-priority-from .ensures)
+    _
+    (two .if2 .left)
+    (c .no-page-from .ensures)
 
 pub ends-clear-spec : {M : Type 1} → statement M
 ends-clear-spec =

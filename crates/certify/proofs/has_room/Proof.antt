@@ -32,7 +32,9 @@ loop-less : tie.Need-loop-less Inv-loop μ-loop
 loop-less c = search needs
 
 loop-again : tie.Need-loop-again Inv-loop μ-loop
-loop-again c = (search needs, passed-more (c .before .before .before .loop .inv .1) (is-roomy _ _ _ _ (c .before .count-to .ensures) (c .if1 .left)))
+loop-again c =
+    let passed = c .before .before .before .loop .inv .1 in
+    (search needs, passed-more passed (is-roomy _ _ _ _ (c .before .count-to .ensures) (c .if1 .left)))
 
 returns-2 : tie.Need-returns-2 Inv-loop μ-loop
 unfolding room

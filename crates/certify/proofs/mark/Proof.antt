@@ -28,13 +28,17 @@ cast-page : tie.Need-cast-page Inv-loop μ-loop
 cast-page c = omega (arith, c .shared-slice-known .given (c .before .before .loop .s))
 
 returns : tie.Need-returns Inv-loop μ-loop
-returns c = (no-seat _ _ _ _ (search needs) (c .before .before .before .loop .inv .1) _ (search needs) (search needs), λ e. absurd (clash e refl))
+returns c =
+    let marked = c .before .before .before .loop .inv .1 in
+    (no-seat _ _ _ _ (search needs) marked _ (search needs) (search needs), λ e. absurd (clash e refl))
 
 element-copy-out-if2 : tie.Need-element-copy-out-if2 Inv-loop μ-loop
 element-copy-out-if2 c = search needs
 
 returns-2 : tie.Need-returns-2 Inv-loop μ-loop
-returns-2 c = (twice _ _ _ _ (search needs) (c .before .before .before .before .before .loop .inv .1) _ (search needs) (c .if2 .taken), λ e. absurd (clash e refl))
+returns-2 c =
+    let marked = c .before .before .before .before .before .loop .inv .1 in
+    (twice _ _ _ _ (search needs) marked _ (search needs) (c .if2 .taken), λ e. absurd (clash e refl))
 
 element-write-marks : tie.Need-element-write-marks Inv-loop μ-loop
 element-write-marks c = search needs
@@ -46,10 +50,16 @@ loop-less : tie.Need-loop-less Inv-loop μ-loop
 loop-less c = search needs
 
 loop-again : tie.Need-loop-again Inv-loop μ-loop
-loop-again c = (search needs, marked-more _ _ _ _ (search needs) (c .before .before .before .before .before .loop .inv .1) (search needs) (search needs) (c .if2 .left))
+loop-again c =
+    let marked = c .before .before .before .before .before .loop .inv .1 in
+    (search needs, marked-more _ _ _ _ (search needs) marked (search needs) (search needs) (c .if2 .left))
 
 returns-3 : tie.Need-returns-3 Inv-loop μ-loop
-returns-3 c = (seats-all _ _ _ _ _ (c .before .loop .inv .1) (search needs) (search needs), λ e. marks-all _ _ _ _ _ (c .before .loop .inv .1) (search needs) (search needs) (search needs))
+returns-3 c =
+    let marked = c .before .loop .inv .1 in (
+      seats-all _ _ _ _ _ marked (search needs) (search needs),
+      λ e. marks-all _ _ _ _ _ marked (search needs) (search needs) (search needs),
+    )
 
 pub mark-spec : {M : Type 1} → statement M
 mark-spec =

@@ -12,7 +12,8 @@ use Rattle.certify.proofs.none_late.Statement.{statement}
 use Rattle.certify.proofs.none_late.Tie as tie
 
 abbrev Inv-loop : tie.InvT-loop
-Inv-loop layer priority marks bars pages numbers q₀ q = (q ≤ pages) × Passed (timely marks layer priority bars) q × (0 < q → Narrow priority)
+Inv-loop layer priority marks bars pages numbers q₀ q =
+    (q ≤ pages) × Passed (timely marks layer priority bars) q × (0 < q → Narrow priority)
 
 abbrev μ-loop : tie.MeasureT-loop
 μ-loop layer priority marks bars pages numbers q₀ q = pages - q
@@ -57,17 +58,34 @@ in-time-requires c κs = search needs
 -- the test of this turn's page
 page :
     (c : tie.After-in-time Inv-loop μ-loop) →
-    (let a = c .before .before .before .before .before .before .before .before .before .args in timely (a .marks .now) (a .layer .now) (a .priority .now) (a .bars .now) (c .before .before .before .before .before .before .before .loop .q)) ≡ c .in-time .result
+    (let head = c .before .before .before .before .before .before .before in
+    let a = head .before .before .args in
+    timely (a .marks .now) (a .layer .now) (a .priority .now) (a .bars .now) (head .loop .q) ≡ c .in-time .result)
 page c =
-    let a = c .before .before .before .before .before .before .before .before .before .args in
-    timely-is (a .marks .now) (a .layer .now) (a .priority .now) (a .bars .now) _ _ _ (c .before .before .before .key .ensures) (c .in-time .ensures)
+    let key = c .before .before .before in
+    let a = key .before .before .before .before .before .before .args in
+    timely-is
+    (a .marks .now)
+    (a .layer .now)
+    (a .priority .now)
+    (a .bars .now)
+    _
+    _
+    _
+    (key .key .ensures)
+    (c .in-time .ensures)
 
 -- a read tells of all priorities
-narrow : (c : tie.After-shared-slice-known Inv-loop μ-loop) → Narrow (c .before .before .before .before .before .args .priority .now)
+narrow :
+    (c : tie.After-shared-slice-known Inv-loop μ-loop) →
+    Narrow (c .before .before .before .before .before .args .priority .now)
 narrow c q = omega (arith, c .shared-slice-known .given q)
 
 returns : tie.Need-returns Inv-loop μ-loop
-returns c = (failed _ _ _ (c .before .before .before .before .before .before .before .loop-test .taken) (page (c .before) ∙ not-true _ (c .if1 .taken)), λ l. narrow (c .before .before .before .before .before))
+returns c =
+    let known = c .before .before .before .before .before in
+    let turn = known .before .before in
+    (failed _ _ _ (turn .loop-test .taken) (page (c .before) ∙ not-true _ (c .if1 .taken)), λ l. narrow known)
 
 add-q : tie.Need-add-q Inv-loop μ-loop
 add-q c = search needs
@@ -76,7 +94,10 @@ loop-less : tie.Need-loop-less Inv-loop μ-loop
 loop-less c = search needs
 
 loop-again : tie.Need-loop-again Inv-loop μ-loop
-loop-again c = (search needs, passed-more (c .before .before .before .before .before .before .before .before .loop .inv .1) (page (c .before) ∙ not-false _ (c .if1 .left)), λ l. narrow (c .before .before .before .before .before))
+loop-again c =
+    let known = c .before .before .before .before .before in
+    let passed = known .before .before .before .loop .inv .1 in
+    (search needs, passed-more passed (page (c .before) ∙ not-false _ (c .if1 .left)), λ l. narrow known)
 
 returns-2 : tie.Need-returns-2 Inv-loop μ-loop
 returns-2 c = (passed-all (c .before .loop .inv .1) (search needs) (search needs), λ l. c .before .loop .inv .2 (omega arith))

@@ -1,5 +1,5 @@
--- `certify::tables` meets its contract: a part that fails makes the tables unsound, and where the others hold the certificate decides.
--- Assumes nothing.
+-- `certify::tables` meets its contract: a part that fails makes the tables unsound, and where the others hold the certificate
+-- decides. Assumes nothing.
 use mathlib.Core.Path.{_≡_, sym, _∙_}
 use borrow.Author.Needs.{needs}
 use borrow.Author.Tests.{not-false}
@@ -31,20 +31,46 @@ returns-3 : tie.Need-returns-3
 returns-3 c = unsound _ _ _ _ _ _ (λ p. p .seats) (refused _ _ (c .before .mark .ensures .0) (c .if3 .taken))
 
 -- the parts that held
-fit : (c : tie.Else1) → (let a = c .before .before .args in layers-fit (a .pages) (a .slots) (a .layer .now)) ≡ true
+fit : (c : tie.Else1) → (let a = c .before .before .args in layers-fit (a .pages) (a .slots) (a .layer .now) ≡ true)
 fit c = sym (granted _ _ (c .before .layers-fit .ensures) (c .if1 .left))
 
-ends : (c : tie.Else2) → (let a = c .before .before .before .before .args in ends-clear (a .pages) (a .slots) (a .layer .now) (a .priority .now) (a .held .now)) ≡ true
+ends :
+    (c : tie.Else2) →
+    (let a = c .before .before .before .before .args in
+    ends-clear (a .pages) (a .slots) (a .layer .now) (a .priority .now) (a .held .now) ≡ true)
 ends c = sym (granted _ _ (c .before .ends-clear .ensures) (c .if2 .left))
 
-seats : (c : tie.Else3) → (let a = c .before .before .before .before .before .before .before .args in seats-fit (a .pages) (a .slots) (a .held .now)) ≡ true
+seats :
+    (c : tie.Else3) →
+    (let a = c .before .before .before .before .before .before .before .args in
+    seats-fit (a .pages) (a .slots) (a .held .now) ≡ true)
 seats c = sym (granted _ _ (c .before .mark .ensures .0) (c .if3 .left))
 
 certificate-requires : tie.Need-certificate-requires
-certificate-requires c κs = ((search needs, search needs, c .before .before .mark .ensures .1 (not-false _ (c .before .if3 .left))), (layers-layered _ _ _ (fit (c .before .before .before .before .before .before)) .bounded, seats-below _ _ _ (seats (c .before))))
+certificate-requires c κs =
+    let three = c .before in
+    let one = three .before .before .before .before .before in
+    let marked = three .before .mark .ensures .1 (not-false _ (three .if3 .left)) in (
+      (search needs, search needs, marked),
+      (layers-layered _ _ _ (fit one) .bounded, seats-below _ _ _ (seats three)),
+    )
 
 returns-4 : tie.Need-returns-4
-returns-4 c = c .certificate .ensures .0 ∙ certificate-sound _ _ _ _ _ (search needs) (search needs) (search needs) (c .certificate .ensures .1 (search needs)) (fit (c .before .before .before .before .before .before .before)) (seats (c .before .before)) (ends (c .before .before .before .before .before))
+returns-4 c =
+    c .certificate .ensures .0
+    ∙ certificate-sound
+    _
+    _
+    _
+    _
+    _
+    (search needs)
+    (search needs)
+    (search needs)
+    (c .certificate .ensures .1 (search needs))
+    (fit (c .before .before .before .before .before .before .before))
+    (seats (c .before .before))
+    (ends (c .before .before .before .before .before))
 
 pub tables-spec : {M : Type 1} → statement M
 tables-spec =
