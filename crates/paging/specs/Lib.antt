@@ -30,6 +30,7 @@
 --     Choice        the sets with room in every layer
 --     Upper         each of them is the end of a schedule with exactly best
 --     Begin         the starts
+--     FullRuns      runs with no free slot, and one request more
 -- Assumes nothing.
 pub mod Sets
 pub mod Ranking
@@ -56,5 +57,6 @@ pub mod Lower
 pub mod Choice
 pub mod Upper
 pub mod Begin
+pub mod FullRuns
 pub mod Theorems
 pub mod Examples

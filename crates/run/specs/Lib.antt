@@ -30,3 +30,5 @@ pub mod Serving
 pub mod Testing
 pub mod Requesting
 pub mod Asking
+pub mod History
+pub mod Theorems

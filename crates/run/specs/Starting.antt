@@ -159,10 +159,10 @@ module _ (N k : ℕ) (ps pr : List ℕ) (ok : list-refusal N k ps ≡ 0) where
   refused-priorities ne =
       rw (pages, slots, eq-eqb (length ps) k (w .entries), w .below-is, w .different-is, ne-eqb (length pr) N ne)
 
-  pub not-refused :
+  pub accepted-start :
       length pr ≡ N → started N k ps pr ≡ record { run = begun-run N k ps (start-priorities N pr); refusal = 0 }
   unfolding started start-run begun-run
-  not-refused e =
+  accepted-start e =
       rw (pages, slots, eq-eqb (length ps) k (w .entries), w .below-is, w .different-is, eq-eqb (length pr) N e)
 
 pub refusal-small : (N k : ℕ) (ps : List ℕ) → list-refusal N k ps ≤ 6
@@ -209,7 +209,7 @@ module _ (N k : ℕ) (ps pr : List ℕ) (r : Run) (n : ℕ) (told : n ≡ list-r
         priority ≡ start-priorities N pr →
         r ≡ begun-run N k ps priority →
         _≡_ {A = Started} (record { run = r; refusal = 0 }) (started N k ps pr)
-    answer-begun priority l ep e = rw (e, ep) (sym (not-refused N k ps pr (sym told ∙ z) l))
+    answer-begun priority l ep e = rw (e, ep) (sym (accepted-start N k ps pr (sym told ∙ z) l))
 
 -- the default list has an entry for each page
 pub default-length : (N : ℕ) → length (default-priorities N) ≡ N
@@ -221,7 +221,7 @@ pub default-never-7 : (N k : ℕ) (ps : List ℕ) → started-default N k ps .re
 unfolding started-default
 default-never-7 N k ps h =
     ⊎-elim
-    (λ z. omega (arith, ap (λ (s : Started). s .refusal) (not-refused N k ps (default-priorities N) z (default-length N))))
+    (λ z. omega (arith, ap (λ (s : Started). s .refusal) (accepted-start N k ps (default-priorities N) z (default-length N))))
     (λ ne.
     omega (arith, refusal-small N k ps, ap (λ (s : Started). s .refusal) (refused-list N k ps (default-priorities N) ne)))
     (same-or-not (list-refusal N k ps) 0)
