@@ -25,13 +25,13 @@ fit-slots N k e =
       leb-true k N (and-right (leb 1 k && leb k most-slots) (leb k N) e),
     )
 
-pub pages-in : (N : ℕ) → 1 ≤ N → N ≤ most-pages → pages-fit N ≡ true
+pub pages-within : (N : ℕ) → 1 ≤ N → N ≤ most-pages → pages-fit N ≡ true
 unfolding pages-fit
-pages-in N a b = and-in (leb 1 N) (leb N most-pages) (le-leb 1 N a) (le-leb N most-pages b)
+pages-within N a b = and-in (leb 1 N) (leb N most-pages) (le-leb 1 N a) (le-leb N most-pages b)
 
-pub slots-in : (N k : ℕ) → 1 ≤ k → k ≤ most-slots → k ≤ N → slots-fit N k ≡ true
+pub slots-within : (N k : ℕ) → 1 ≤ k → k ≤ most-slots → k ≤ N → slots-fit N k ≡ true
 unfolding slots-fit
-slots-in N k a b c =
+slots-within N k a b c =
     and-in
     (leb 1 k && leb k most-slots)
     (leb k N)
@@ -47,11 +47,11 @@ module _ (N k : ℕ) where
   pub limits-slots :
       1 ≤ N → N ≤ most-pages → ((1 ≤ k) × (k ≤ most-slots) × (k ≤ N) → ⊥) → 3 ≡ limits-refusal N k
   unfolding limits-refusal
-  limits-slots a b h = rw (pages-in N a b, isnt (slots-fit N k) (λ e. h (fit-slots N k e)))
+  limits-slots a b h = rw (pages-within N a b, isnt (slots-fit N k) (λ e. h (fit-slots N k e)))
 
   pub limits-none : Limits N k → 0 ≡ limits-refusal N k
   unfolding limits-refusal
-  limits-none l = rw (pages-in N (l .0) (l .1), slots-in N k (l .2) (l .3) (l .4))
+  limits-none l = rw (pages-within N (l .0) (l .1), slots-within N k (l .2) (l .3) (l .4))
 
   -- what it means that neither applies
   pub limits-hold : limits-refusal N k ≡ 0 → Limits N k

@@ -5,6 +5,7 @@
 --     Start         the answer of a start
 --     Request       the answer of a request and of a trial
 --     Questions     the answers of layer, certain and the plain selection
+--     Stored        the run in an image, the answers of the image reader and writer
 -- What is proved of it:
 --     SoundLaws     the record and the test of a sound run agree
 --     RequestLaws   the run after a request is sound
@@ -15,6 +16,7 @@
 --     Testing       the soundness test: limits, counts, tables
 --     Requesting    the refusals of a request
 --     Asking        the questions
+--     Storing       the image reader and writer
 -- Assumes nothing.
 pub mod Numbers
 pub mod Cached
@@ -22,6 +24,7 @@ pub mod Sound
 pub mod Start
 pub mod Request
 pub mod Questions
+pub mod Stored
 pub mod SoundLaws
 pub mod RequestLaws
 pub mod StartLaws
@@ -30,5 +33,7 @@ pub mod Serving
 pub mod Testing
 pub mod Requesting
 pub mod Asking
+pub mod Storing
 pub mod History
 pub mod Theorems
+pub mod StoredTheorems

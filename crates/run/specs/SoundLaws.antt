@@ -14,7 +14,7 @@ use Rattle.paging.specs.Tests.{and-left, and-right, implies-true, implies-in, b
 use Rattle.paging.specs.Words.{each-true, each-in, any-true, any-in, only-true, only-in}
 use Rattle.slots.specs.Slots.{no-page}
 use Rattle.begin.specs.Limits.{pages-fit, slots-fit}
-use Rattle.begin.specs.LimitLaws.{fit-pages, fit-slots, pages-in, slots-in}
+use Rattle.begin.specs.LimitLaws.{fit-pages, fit-slots, pages-within, slots-within}
 use Rattle.run.specs.Numbers.{layer, most-served, in-slot}
 use Rattle.run.specs.Cached.{cached, selection}
 use Rattle.run.specs.Sound.{Sound, sound}
@@ -126,8 +126,8 @@ facts r t =
 
 test : (r : Run) → Sound r → Clauses r
 test r w = (
-  pages-in (r .pages) (w .pages .0) (w .pages .1),
-  slots-in (r .pages) (r .slots) (w .slots .0) (w .slots .1) (w .slots .2),
+  pages-within (r .pages) (w .pages .0) (w .pages .1),
+  slots-within (r .pages) (r .slots) (w .slots .0) (w .slots .1) (w .slots .2),
   each-in (r .pages) (λ q. leb (layer r q) (r .slots)) (λ q l. le-leb (layer r q) (r .slots) (w .layers q l)),
   each-in (r .slots) (λ j. any (r .pages) (in-layer (layer r) (suc j))) fill,
   eq-eqb (count (in-layer (layer r) (r .slots)) (r .pages)) 1 (w .last),

@@ -17,7 +17,7 @@ use Rattle.paging.specs.Tables.{listed-length}
 use Rattle.ranking.specs.Defaults.{default-priority, default-priorities}
 use Rattle.begin.specs.Limits.{pages-fit, slots-fit, limits-refusal}
 use Rattle.begin.specs.Begin.{below, different, start-layers, start-priorities, start-slots}
-use Rattle.begin.specs.LimitLaws.{Limits, fit-pages, fit-slots, pages-in, slots-in}
+use Rattle.begin.specs.LimitLaws.{Limits, fit-pages, fit-slots, pages-within, slots-within}
 use Rattle.run.specs.Numbers.{blank-run, priority}
 use Rattle.run.specs.Start.{start-run, no-start, started, started-default}
 
@@ -149,10 +149,10 @@ module _ (N k : ℕ) (ps pr : List ℕ) (ok : list-refusal N k ps ≡ 0) where
   w = listed-start N k ps ok
 
   pages : pages-fit N ≡ true
-  pages = pages-in N (w .limits .0) (w .limits .1)
+  pages = pages-within N (w .limits .0) (w .limits .1)
 
   slots : slots-fit N k ≡ true
-  slots = slots-in N k (w .limits .2) (w .limits .3) (w .limits .4)
+  slots = slots-within N k (w .limits .2) (w .limits .3) (w .limits .4)
 
   pub refused-priorities : (length pr ≡ N → ⊥) → started N k ps pr ≡ no-start 7
   unfolding started

@@ -11,6 +11,8 @@ ghost use Rattle.run.specs.Request.{served, requested, tried};
 ghost use Rattle.run.specs.Requesting.{request-refusal};
 ghost use Rattle.run.specs.Questions.{refusal, layer-answer, certain-answer, selection-answer};
 ghost use Rattle.run.specs.Serving.{with-counts, answered};
+ghost use Rattle.image.specs.Layout.{image-refusal};
+ghost use Rattle.run.specs.Stored.{image-run, restored, store-refusal, stored, stored-bytes};
 use serve::Event;
 
 pub struct Run {
@@ -49,6 +51,23 @@ pub struct CertainAnswer {
 
 pub struct SelectionAnswer {
     pub pages: [bool; 1024],
+    pub refusal: u8,
+}
+
+// What the image reader comes to.
+pub enum Reading {
+    Accepted,
+    Refused { number: u8 },
+}
+
+pub struct Restored {
+    pub run: Run,
+    pub event: Reading,
+}
+
+// What the image writer answers: how many bytes it wrote.
+pub struct Stored {
+    pub length: usize,
     pub refusal: u8,
 }
 
@@ -367,6 +386,98 @@ impl Run {
         let priority = self.priority;
         SelectionAnswer {
             pages: selection::selected(layer, priority, self.pages, self.slots),
+            refusal: 0,
+        }
+    }
+
+    // The run in an image whose length and header are right.
+    fn in_image(image: &[u8]) -> Self
+        requires { ⌜ image-refusal (now image) ≡ 0 ⌝ }
+        ensures { λ r. ⌜ r ≡ image-run (now (image .entry)) ⌝ }
+    {
+        let pages = words::read_u32(image, 0) as usize;
+        let slots = words::read_u32(image, 4) as usize;
+        Self {
+            pages,
+            slots,
+            served: words::read_u32(image, 8),
+            hits: words::read_u32(image, 12),
+            misses: words::read_u32(image, 16),
+            best: words::read_u32(image, 20),
+            layer: image::layers(image, pages),
+            priority: image::priorities(image, pages, slots),
+            held: image::slots(image, pages, slots),
+        }
+    }
+
+    // Takes up the run in an image in this one's place. Refusals 13 (under 36), 2, 3, 15, 13 (total), 1: then the blank run.
+    pub fn restore(mut self, image: &[u8]) -> Restored
+        ensures { λ r. ⌜ r ≡ restored (now (image .entry)) ⌝ }
+    {
+        let number = image::refusal(image);
+        if number != 0 {
+            return Restored {
+                run: Run::blank(),
+                event: Reading::Refused { number },
+            };
+        }
+        self = Run::in_image(image);
+        if !image::agree(image, self.pages, self.slots) {
+            return Restored {
+                run: Run::blank(),
+                event: Reading::Refused { number: 1 },
+            };
+        }
+        if !self.is_sound() {
+            return Restored {
+                run: Run::blank(),
+                event: Reading::Refused { number: 1 },
+            };
+        }
+        Restored {
+            run: self,
+            event: Reading::Accepted,
+        }
+    }
+
+    // The first refusal of the image writer: 1, 16, or 0.
+    fn store_refusal(self, out: &[u8]) -> u8
+        ensures { λ r. ⌜ r ≡ store-refusal self (now (out .entry)) ⌝ }
+    {
+        if !self.is_sound() {
+            return 1;
+        }
+        if out.len() < 36 + 3 * self.pages + 2 * self.slots {
+            return 16;
+        }
+        0
+    }
+
+    // Writes the run's image at the start of a buffer. Refusals 1, 16: then the buffer is as it was.
+    pub fn store(self, out: &mut [u8]) -> Stored
+        ensures answer { λ r. ⌜ r ≡ stored self (now (out .entry)) ⌝ }
+        ensures buffer { λ _. ⌜ now (out .exit) ≡ stored-bytes self (now (out .entry)) ⌝ }
+    {
+        let refusal = self.store_refusal(out);
+        if refusal != 0 {
+            return Stored { length: 0, refusal };
+        }
+        let pages = self.pages;
+        let slots = self.slots;
+        image::write(
+            out,
+            pages,
+            slots,
+            self.served,
+            self.hits,
+            self.misses,
+            self.best,
+            &self.layer,
+            &self.priority,
+            &self.held,
+        );
+        Stored {
+            length: 36 + 3 * pages + 2 * slots,
             refusal: 0,
         }
     }

@@ -1,0 +1,68 @@
+-- Document 01, 'House layouts': a run in an image, and the answers of the image reader and writer. The layout itself stands in
+-- Layout of the crate `image`. Assumes nothing.
+use mathlib.Core.Bool.{_&&_}
+use mathlib.Core.List.{List}
+use Prim.Native.Nat.{ℕ}
+use lib.ListN.{length}
+use Rattle.paging.specs.Sets.{_=?_, _≤?_, if_then_else_, unless_give_else_}
+use Rattle.words.specs.Words.{word-at, put}
+use Rattle.image.specs.Layout.{image-bytes, image-length, pages-in, slots-in, image-refusal, image-layers, image-slots, image-priorities, marks-agree}
+use Rattle.run.specs.declared.Run.{Run}
+use Rattle.run.specs.declared.Reading.{Reading}
+use Rattle.run.specs.declared.Reading.the-variants.{Accepted, Refused}
+use Rattle.run.specs.declared.Restored.{Restored}
+use Rattle.run.specs.declared.Stored.{Stored}
+use Rattle.run.specs.Numbers.{blank-run}
+use Rattle.run.specs.Sound.{sound}
+
+-- This paper's number of each case: 0 where the image is accepted.
+unfoldable pub reading-number : Reading → ℕ
+reading-number Accepted = 0
+reading-number (Refused n) = n
+
+-- The run in an image.
+unfoldable pub image-run : List ℕ → Run
+image-run b =
+    record {
+      pages = pages-in b;
+      slots = slots-in b;
+      served = word-at 4 b 8;
+      hits = word-at 4 b 12;
+      misses = word-at 4 b 16;
+      best = word-at 4 b 20;
+      layer = image-layers (pages-in b) b;
+      priority = image-priorities (pages-in b) (slots-in b) b;
+      held = image-slots (pages-in b) (slots-in b) b;
+    }
+
+-- A refused image reader hands back the blank run.
+abbrev pub no-run : ℕ → Restored
+no-run n = record { run = blank-run; event = Refused n }
+
+-- Image reader: 13 (under 36), 2, 3, 15, 13 (total), 1. Unequal marks and slots make the run unsound.
+unfoldable pub restored : List ℕ → Restored
+restored b =
+    unless image-refusal b =? 0 give no-run (image-refusal b) else
+    unless marks-agree (pages-in b) (slots-in b) b && sound (image-run b) give no-run 1 else
+    record { run = image-run b; event = Accepted }
+
+-- The image of a run.
+unfoldable pub image-of : Run → List ℕ
+image-of r =
+    image-bytes (r .pages) (r .slots) (r .served) (r .hits) (r .misses) (r .best) (r .layer) (r .priority) (r .held)
+
+-- Image writer: 1, 16. It touches only the bytes it reports; no buffer changes beside a refusal.
+unfoldable pub store-refusal : Run → List ℕ → ℕ
+store-refusal r out =
+    unless sound r give 1 else
+    unless image-length (r .pages) (r .slots) ≤? length out give 16 else
+    0
+
+unfoldable pub stored : Run → List ℕ → Stored
+stored r out =
+    if store-refusal r out =? 0
+    then record { length = image-length (r .pages) (r .slots); refusal = 0 }
+    else record { length = 0; refusal = store-refusal r out }
+
+unfoldable pub stored-bytes : Run → List ℕ → List ℕ
+stored-bytes r out = if store-refusal r out =? 0 then put out 0 (image-of r) else out
