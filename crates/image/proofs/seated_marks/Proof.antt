@@ -41,8 +41,8 @@ loop-again c =
     let inside : c .before .before .before .loop .s < length (c .before .before .before .before .before .args .held .now) = search needs in (
       search needs,
       ⊎-elim
-          (λ w. rw (w .1) (marked-more _ _ _ inside marked (w .0 .taken)))
-          (λ w. rw (w .1) (marked-past _ _ _ inside marked (w .0 .left)))
+          (λ w. rw (w .1) (marked-more _ _ _ inside marked (omega (arith, w .0 .taken))))
+          (λ w. rw (w .1) (marked-past _ _ _ inside marked (omega (arith, w .0 .left))))
           (c .if1 .came),
     )
 
