@@ -7,8 +7,7 @@ ghost use Rattle.run.specs.Numbers.{most-served, blank-run};
 ghost use Rattle.run.specs.Start.{started, started-default};
 ghost use Rattle.run.specs.Starting.{list-refusal, begun-run};
 ghost use Rattle.run.specs.Sound.{Sound, sound};
-ghost use Rattle.run.specs.Request.{served, requested, tried};
-ghost use Rattle.run.specs.Requesting.{request-refusal};
+ghost use Rattle.run.specs.Request.{served, refused, requested, tried};
 ghost use Rattle.run.specs.Questions.{refusal, layer-answer, certain-answer, selection-answer};
 ghost use Rattle.run.specs.Serving.{with-counts, answered};
 ghost use Rattle.image.specs.Layout.{image-refusal};
@@ -275,35 +274,38 @@ impl Run {
         certify::tables(&self.layer, &self.priority, &self.held, pages, slots)
     }
 
-    // The first refusal of a request: 1, 8, 9, or 0.
-    fn request_refusal(self, page: usize) -> u8
-        ensures { λ r. ⌜ r ≡ request-refusal self page ⌝ }
+    fn refused(self, number: u8) -> Served
+        ensures { λ r. ⌜ r ≡ refused self number ⌝ }
     {
-        if !self.is_sound() {
-            return 1;
+        Served {
+            run: self,
+            event: Event::Refused { number },
+            best: 0,
         }
+    }
+
+    // A request to a run that is known to be sound: refusals 8, 9, 17, and no test of the whole run.
+    pub fn request_of_sound(self, page: usize) -> Served
+        requires { ⌜ Sound self ⌝ }
+        ensures { λ r. ⌜ r ≡ requested self page ⌝ }
+    {
         if self.pages <= page {
-            return 8;
+            return self.refused(8);
         }
         if Run::MAX_SERVED <= self.served {
-            return 9;
+            return self.refused(9);
         }
-        0
+        self.serve(page)
     }
 
     // Serves a request: the next run with the event, and best with this request counted. Refusals 1, 8, 9, 17: then this run.
     pub fn request(mut self, page: usize) -> Served
         ensures { λ r. ⌜ r ≡ requested self page ⌝ }
     {
-        let number = self.request_refusal(page);
-        if number != 0 {
-            return Served {
-                run: self,
-                event: Event::Refused { number },
-                best: 0,
-            };
+        if !self.is_sound() {
+            return self.refused(1);
         }
-        self.serve(page)
+        self.request_of_sound(page)
     }
 
     // Answers as a request would, and keeps nothing: this run comes back.
