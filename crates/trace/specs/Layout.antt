@@ -5,7 +5,6 @@ use Prim.Native.Nat.{ℕ, _+_, _*_}
 use lib.ListN.{length}
 use Rattle.paging.specs.Sets.{_=?_, _≤?_, if_then_else_, unless_give_else_, listed}
 use Rattle.words.specs.Words.{words, word-at, put}
-use Rattle.ranking.specs.Defaults.{default-priorities}
 use Rattle.begin.specs.Limits.{limits-refusal}
 use Rattle.begin.specs.Begin.{below, different}
 use Rattle.run.specs.Numbers.{blank-run}

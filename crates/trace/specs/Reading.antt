@@ -1,5 +1,5 @@
 -- The reader as the code takes it: the header's refusals first, then those of a start with the lists that are read. Assumes nothing.
-use mathlib.Core.Bool.{Bool, true, false, _&&_}
+use mathlib.Core.Bool.{Bool, true, false}
 use mathlib.Core.List.{List}
 use mathlib.Core.Logic.{_⊎_, inl, inr}
 use mathlib.Core.Path.{_≡_, refl, sym, ap, _∙_}
@@ -10,19 +10,18 @@ use lib.ListN.{length, take}
 use lib.Seq.{take-at}
 use borrow.Author.Tests.{eqb-true, eqb-false, eq-eqb, ne-eqb, leb-true, le-leb, lt-leb}
 use Rattle.paging.specs.Sets.{_=?_, _≤?_, unless_give_else_, listed, table}
-use Rattle.paging.specs.Tests.{truth, and-in, and-left, and-right}
+use Rattle.paging.specs.Tests.{truth}
 use Rattle.paging.specs.Tables.{listed-length}
 use Rattle.words.specs.Words.{word-at}
 use Rattle.begin.specs.Limits.{pages-fit, slots-fit, limits-refusal}
 use Rattle.begin.specs.Begin.{below, different}
-use Rattle.begin.specs.LimitLaws.{Limits, limits-hold, pages-within as in-pages, slots-within as in-slots}
-use Rattle.run.specs.declared.Run.{Run}
+use Rattle.begin.specs.LimitLaws.{Limits, limits-hold, pages-within, slots-within}
 use Rattle.run.specs.declared.Started.{Started}
 use Rattle.run.specs.Numbers.{blank-run}
 use Rattle.run.specs.Start.{start-run, started}
 use Rattle.run.specs.StartLaws.{accepted}
 use Rattle.trace.specs.declared.Traced.{Traced}
-use Rattle.trace.specs.Layout.{most-requests, trace-length, pages-in, slots-in, requests-in, request-offset}
+use Rattle.trace.specs.Layout.{most-requests, trace-length, pages-in, slots-in, requests-in}
 use Rattle.trace.specs.Layout.{list-in, priorities-in, offsets-right, trace-refusal, traced, request-word}
 
 -- The refusal that N and k of a file give.
@@ -219,10 +218,10 @@ start-refuses b z = go (truth (below (pages-in b) (list-in b))) (truth (differen
     t = eq-eqb (length b) (24 + 2 * slots-in b + 2 * pages-in b + 2 * requests-in b) (h .total)
 
     p : pages-fit (pages-in b) ≡ true
-    p = in-pages (pages-in b) (h .limits .0) (h .limits .1)
+    p = pages-within (pages-in b) (h .limits .0) (h .limits .1)
 
     s : slots-fit (pages-in b) (slots-in b) ≡ true
-    s = in-slots (pages-in b) (slots-in b) (h .limits .2) (h .limits .3) (h .limits .4)
+    s = slots-within (pages-in b) (slots-in b) (h .limits .2) (h .limits .3) (h .limits .4)
 
     ll : eqb (length (list-in b)) (slots-in b) ≡ true
     ll = eq-eqb (length (list-in b)) (slots-in b) (list-length b)

@@ -1,11 +1,10 @@
 -- The writer as the code takes it: its refusals, and the sections one after the other. Assumes nothing.
-use mathlib.Core.Bool.{Bool, true, false}
 use mathlib.Core.List.{List, [], _∷_, _++_, append-assoc}
 use mathlib.Core.Path.{_≡_, refl, sym, ap, _∙_}
-use Prim.Native.Nat.{ℕ, zero, suc, _+_, _*_, _≤_, _<_}
+use Prim.Native.Nat.{ℕ, _+_, _*_, _≤_, _<_}
 use native.Mathlib.Omega.{arith}
 use lib.ListN.{length, getD, take, length-append}
-use borrow.Author.Tests.{eq-eqb, ne-eqb, le-leb, lt-leb}
+use borrow.Author.Tests.{ne-eqb, le-leb, lt-leb}
 use Rattle.words.specs.Words.{bytes, words, put}
 use Rattle.words.specs.Laws.{words-length, words-append, words-one, put-then}
 use Rattle.paging.specs.Sets.{listed}
@@ -16,7 +15,7 @@ use Rattle.begin.specs.LimitLaws.{limits-hold}
 use Rattle.begin.specs.Begin.{start-priorities}
 use Rattle.run.specs.declared.Started.{Started}
 use Rattle.run.specs.Start.{started}
-use Rattle.run.specs.StartLaws.{Accepted, accepted}
+use Rattle.run.specs.StartLaws.{accepted}
 use Rattle.run.specs.Starting.{list-refusal, refuse-limits, refused-list}
 use Rattle.trace.specs.declared.Written.{Written}
 use Rattle.trace.specs.Layout.{most-requests, trace-header, trace-length, trace-bytes, write-refusal, written, written-bytes}

@@ -5,7 +5,7 @@ ghost use lib.ListN.{length};
 ghost use Rattle.paging.specs.Sets.{table};
 ghost use Rattle.words.specs.Words.{words, word-at, put};
 ghost use Rattle.ranking.specs.Defaults.{default-priorities};
-ghost use Rattle.trace.specs.Layout.{most-requests, trace-header, trace-length, trace-bytes, offsets-right};
+ghost use Rattle.trace.specs.Layout.{trace-header, trace-bytes, offsets-right};
 ghost use Rattle.trace.specs.Layout.{traced, request-word, written, written-bytes};
 ghost use Rattle.trace.specs.Reading.{header-refusal, no-trace};
 ghost use Rattle.trace.specs.Writing.{Fits};

@@ -1,9 +1,8 @@
 -- `trace::header_refusal` meets its contract, by its tests in their order. Assumes nothing.
-use Prim.Native.Nat.{_-_}
 use mathlib.Core.Path.{sym, _∙_}
 use borrow.Author.Needs.{needs}
-use Rattle.trace.specs.Reading.{header-short, header-limits, header-requests, header-offsets, header-total, header-none}
 use borrow.Author.Tests.{not-true, not-false}
+use Rattle.trace.specs.Reading.{header-short, header-limits, header-requests, header-offsets, header-total, header-none}
 use Rattle.trace.proofs.header_refusal.Statement.{statement}
 use Rattle.trace.proofs.header_refusal.Tie as tie
 
@@ -33,21 +32,25 @@ limits-refusal-requires c κs = search needs
 
 returns-2 : tie.Need-returns-2
 returns-2 c =
-    header-limits _ (search needs) _ _ _ (c .before .before .before .before .read-u32 .ensures) (c .before .before .before .read-u322 .ensures) (c .before .limits-refusal .ensures)
+    let l = c .before in
+    header-limits _ (search needs) _ _ _ (l .before .before .before .read-u32 .ensures) (l .before .before .read-u322 .ensures) (l .limits-refusal .ensures)
     (search needs)
 
 returns-3 : tie.Need-returns-3
 returns-3 c =
-    header-requests _ (search needs) _ _ _ (c .before .before .before .before .before .read-u32 .ensures) (c .before .before .before .before .read-u322 .ensures) (c .before .before .limits-refusal .ensures)
-    (search needs) _ (c .before .before .before .read-u323 .ensures) (search needs)
+    let l = c .before .before in
+    header-requests _ (search needs) _ _ _ (l .before .before .before .read-u32 .ensures) (l .before .before .read-u322 .ensures) (l .limits-refusal .ensures)
+    (search needs) _ (l .before .read-u323 .ensures) (search needs)
 
 offsets-right-requires : tie.Need-offsets-right-requires
 offsets-right-requires c κs = search needs
 
 returns-4 : tie.Need-returns-4
 returns-4 c =
-    header-offsets _ (search needs) _ _ _ (c .before .before .before .before .before .before .before .read-u32 .ensures) (c .before .before .before .before .before .before .read-u322 .ensures) (c .before .before .before .before .limits-refusal .ensures)
-    (search needs) _ (c .before .before .before .before .before .read-u323 .ensures) (search needs) (sym (c .before .offsets-right .ensures) ∙ not-true _ (c .if4 .taken))
+    let l = c .before .before .before .before in
+    header-offsets _ (search needs) _ _ _ (l .before .before .before .read-u32 .ensures) (l .before .before .read-u322 .ensures) (l .limits-refusal .ensures)
+    (search needs) _ (l .before .read-u323 .ensures) (search needs)
+    (sym (c .before .offsets-right .ensures) ∙ not-true _ (c .if4 .taken))
 
 mul-if5 : tie.Need-mul-if5
 mul-if5 c = search needs
@@ -69,13 +72,19 @@ add-if5-3 c = search needs
 
 returns-5 : tie.Need-returns-5
 returns-5 c =
-    header-total _ (search needs) _ _ _ (c .before .before .before .before .before .before .before .before .read-u32 .ensures) (c .before .before .before .before .before .before .before .read-u322 .ensures) (c .before .before .before .before .before .limits-refusal .ensures)
-    (search needs) _ (c .before .before .before .before .before .before .read-u323 .ensures) (search needs) (sym (c .before .before .offsets-right .ensures) ∙ not-false _ (c .before .if4 .left)) (search needs)
+    let l = c .before .before .before .before .before in
+    header-total _ (search needs) _ _ _ (l .before .before .before .read-u32 .ensures) (l .before .before .read-u322 .ensures) (l .limits-refusal .ensures)
+    (search needs) _ (l .before .read-u323 .ensures) (search needs)
+    (sym (c .before .before .offsets-right .ensures) ∙ not-false _ (c .before .if4 .left))
+    (search needs)
 
 returns-6 : tie.Need-returns-6
 returns-6 c =
-    header-none _ (search needs) _ _ _ (c .before .before .before .before .before .before .before .before .read-u32 .ensures) (c .before .before .before .before .before .before .before .read-u322 .ensures) (c .before .before .before .before .before .limits-refusal .ensures)
-    (search needs) _ (c .before .before .before .before .before .before .read-u323 .ensures) (search needs) (sym (c .before .before .offsets-right .ensures) ∙ not-false _ (c .before .if4 .left)) (search needs)
+    let l = c .before .before .before .before .before in
+    header-none _ (search needs) _ _ _ (l .before .before .before .read-u32 .ensures) (l .before .before .read-u322 .ensures) (l .limits-refusal .ensures)
+    (search needs) _ (l .before .read-u323 .ensures) (search needs)
+    (sym (c .before .before .offsets-right .ensures) ∙ not-false _ (c .before .if4 .left))
+    (search needs)
 
 pub header-refusal-spec : {M : Type 1} → statement M
 header-refusal-spec =

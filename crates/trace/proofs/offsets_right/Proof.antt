@@ -1,5 +1,4 @@
 -- `trace::offsets_right` meets its contract, by its tests in their order. Assumes nothing.
-use Prim.Native.Nat.{_-_}
 use borrow.Author.Needs.{needs}
 use Rattle.trace.specs.Reading.{wrong-first, wrong-second, right-two}
 use Rattle.trace.proofs.offsets_right.Statement.{statement}
@@ -37,7 +36,8 @@ add-if2 c = search needs
 
 returns-2 : tie.Need-returns-2
 returns-2 c =
-    wrong-second _ _ _ _ (c .before .before .before .before .read-u322 .ensures) (c .before .before .before .read-u323 .ensures) (c .before .read-u324 .ensures) (search needs) (search needs)
+    let third = c .before .before .before in
+    wrong-second _ _ _ _ (third .before .read-u322 .ensures) (third .read-u323 .ensures) (c .before .read-u324 .ensures) (search needs) (search needs)
 
 read-u32-requires-5 : tie.Need-read-u32-requires-5
 read-u32-requires-5 c κs = search needs
@@ -59,7 +59,11 @@ add-result-2 c = search needs
 
 returns-3 : tie.Need-returns-3
 returns-3 c =
-    right-two _ _ _ _ (c .before .before .before .before .before .read-u322 .ensures) (c .before .before .before .before .read-u323 .ensures) (c .before .before .read-u324 .ensures) (search needs) _ _ (c .before .before .before .before .before .before .read-u32 .ensures) (c .read-u325 .ensures) (search needs)
+    let third = c .before .before .before .before in
+    right-two _ _ _ _ (third .before .read-u322 .ensures) (third .read-u323 .ensures) (c .before .before .read-u324 .ensures) (search needs) _ _
+    (third .before .before .read-u32 .ensures)
+    (c .read-u325 .ensures)
+    (search needs)
 
 pub offsets-right-spec : {M : Type 1} → statement M
 offsets-right-spec =

@@ -1,5 +1,4 @@
 -- `trace::read` meets its contract: the header, the two lists, and the start with them. Assumes nothing.
-use Prim.Native.Nat.{_-_}
 use mathlib.Core.Path.{_∙_}
 use native.Mathlib.Omega.{arith}
 use borrow.Author.Needs.{needs}
@@ -66,29 +65,45 @@ refused-requires-2 c κs = search needs
 
 returns-2 : tie.Need-returns-2
 returns-2 c =
-    read-refused _ _ _ _ (c .before .before .before .before .before .before .before .before .before .read-u32 .ensures) (c .before .before .before .before .before .before .before .before .read-u322 .ensures) (c .before .before .before .before .before .before .before .read-u323 .ensures) _ _
-    (c .before .before .before .before .before .before .entries .ensures)
-    (c .before .before .before .before .before .entries2 .ensures)
-    _ (c .before .before .start .ensures) _ (c .before .before .before .before .before .before .before .before .before .before .before .header-refusal .ensures) (search needs) _ (search needs) (c .refused2 .ensures)
+    let s = c .before .before in
+    let f = s .before .before .before .before .before in
+    read-refused _ _ _ _ (f .before .before .read-u32 .ensures) (f .before .read-u322 .ensures) (f .read-u323 .ensures) _ _
+    (s .before .before .before .before .entries .ensures)
+    (s .before .before .before .entries2 .ensures)
+    _ (s .start .ensures) _ (f .before .before .before .before .header-refusal .ensures) (search needs) _ (search needs) (c .refused2 .ensures)
 
 mul-t15 : tie.Need-mul-t15
-mul-t15 c = let r = header-room _ _ (c .before .before .before .before .before .before .before .before .before .before .before .header-refusal .ensures) (search needs) in omega arith
+mul-t15 c =
+    let s = c .before .before .before in
+    let r = header-room _ _ (s .before .before .before .before .before .before .before .before .header-refusal .ensures) (search needs) in
+    omega arith
 
 add-t14 : tie.Need-add-t14
-add-t14 c = let r = header-room _ _ (c .before .before .before .before .before .before .before .before .before .before .before .header-refusal .ensures) (search needs) in omega arith
+add-t14 c =
+    let s = c .before .before .before in
+    let r = header-room _ _ (s .before .before .before .before .before .before .before .before .header-refusal .ensures) (search needs) in
+    omega arith
 
 mul-t20 : tie.Need-mul-t20
-mul-t20 c = let r = header-room _ _ (c .before .before .before .before .before .before .before .before .before .before .before .header-refusal .ensures) (search needs) in omega arith
+mul-t20 c =
+    let s = c .before .before .before in
+    let r = header-room _ _ (s .before .before .before .before .before .before .before .before .header-refusal .ensures) (search needs) in
+    omega arith
 
 add-t21 : tie.Need-add-t21
-add-t21 c = let r = header-room _ _ (c .before .before .before .before .before .before .before .before .before .before .before .header-refusal .ensures) (search needs) in omega arith
+add-t21 c =
+    let s = c .before .before .before in
+    let r = header-room _ _ (s .before .before .before .before .before .before .before .before .header-refusal .ensures) (search needs) in
+    omega arith
 
 returns-3 : tie.Need-returns-3
 returns-3 c =
-    read-told _ _ _ _ (c .before .before .before .before .before .before .before .before .before .read-u32 .ensures) (c .before .before .before .before .before .before .before .before .read-u322 .ensures) (c .before .before .before .before .before .before .before .read-u323 .ensures) _ _
-    (c .before .before .before .before .before .before .entries .ensures)
-    (c .before .before .before .before .before .entries2 .ensures)
-    _ (c .before .before .start .ensures) _ (c .before .before .before .before .before .before .before .before .before .before .before .header-refusal .ensures) (search needs) (search needs)
+    let s = c .before .before in
+    let f = s .before .before .before .before .before in
+    read-told _ _ _ _ (f .before .before .read-u32 .ensures) (f .before .read-u322 .ensures) (f .read-u323 .ensures) _ _
+    (s .before .before .before .before .entries .ensures)
+    (s .before .before .before .entries2 .ensures)
+    _ (s .start .ensures) _ (f .before .before .before .before .header-refusal .ensures) (search needs) (search needs)
 
 pub read-spec : {M : Type 1} → statement M
 read-spec =

@@ -1,5 +1,4 @@
 -- `trace::refused` meets its contract. Assumes nothing.
-use Prim.Native.Nat.{_-_}
 use borrow.Author.Needs.{needs}
 use Rattle.trace.specs.Reading.{no-trace}
 use Rattle.trace.proofs.refused.Statement.{statement}

@@ -1,5 +1,4 @@
 -- `trace::request_at` meets its contract. Assumes nothing.
-use Prim.Native.Nat.{_-_}
 use borrow.Author.Needs.{needs}
 use Rattle.trace.specs.Reading.{request-past, request-there}
 use Rattle.trace.proofs.request_at.Statement.{statement}

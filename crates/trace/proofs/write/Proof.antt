@@ -1,5 +1,4 @@
 -- `trace::write` meets its contract, by its tests in their order. Assumes nothing.
-use Prim.Native.Nat.{_-_}
 use native.Mathlib.Omega.{arith}
 use borrow.Author.Needs.{needs}
 use Rattle.trace.specs.Writing.{write-refused, write-told, refuse-start, refuse-requests, refuse-room, refuse-none, write-fits, start-limits}

@@ -1,5 +1,4 @@
 -- `trace::write_default` meets its contract: the table of default priorities, and then as `write`. Assumes nothing.
-use Prim.Native.Nat.{_-_}
 use borrow.Author.Needs.{needs}
 use Rattle.trace.specs.Writing.{write-refused, refuse-limited, default-part, limit-pages}
 use Rattle.trace.specs.Reading.{part-length}

@@ -1,5 +1,4 @@
 -- `trace::write_header` meets its contract, number by number. Assumes nothing.
-use Prim.Native.Nat.{_-_}
 use mathlib.Core.Path.{refl}
 use borrow.Author.Needs.{needs}
 use Rattle.trace.specs.Writing.{header-written}
@@ -62,13 +61,19 @@ same-length c = search needs
 
 returns : tie.Need-returns
 returns c =
+    let six = c .before .before in
+    let five = six .before .before .before .before in
+    let four = five .before .before .before .before in
+    let three = four .before .before .before .before in
+    let two = three .before .before .before .before in
+    let one = two .before .before .before .before in
     header-written _ _ _ _ _ _ _ _ _ _ _ _ (search needs) refl refl
-    (c .before .before .before .before .before .before .before .before .before .before .before .before .before .before .before .before .before .before .before .before .before .before .write-u32 .ensures)
-    (c .before .before .before .before .before .before .before .before .before .before .before .before .before .before .before .before .before .before .write-u322 .ensures)
-    (c .before .before .before .before .before .before .before .before .before .before .before .before .before .before .write-u323 .ensures)
-    (c .before .before .before .before .before .before .before .before .before .before .write-u324 .ensures)
-    (c .before .before .before .before .before .before .write-u325 .ensures)
-    (c .before .before .write-u326 .ensures)
+    (one .write-u32 .ensures)
+    (two .write-u322 .ensures)
+    (three .write-u323 .ensures)
+    (four .write-u324 .ensures)
+    (five .write-u325 .ensures)
+    (six .write-u326 .ensures)
 
 pub write-header-spec : {M : Type 1} → statement M
 write-header-spec =

@@ -1,5 +1,4 @@
 -- `trace::write_sections` meets its contract, section by section. Assumes nothing.
-use Prim.Native.Nat.{_-_}
 use borrow.Author.Needs.{needs}
 use Rattle.trace.specs.Writing.{sections-written}
 use Rattle.trace.proofs.write_sections.Statement.{statement}
@@ -40,11 +39,15 @@ same-length c = search needs
 
 returns : tie.Need-returns
 returns c =
-    sections-written _ _ _ _ _ _ _ _ _ _ (c .before .before .before .before .before .before .before .before .before .before .before .before .before .before .before .before .before .before .before .before .pre)
-    (c .before .before .before .before .before .before .before .before .before .before .before .before .before .before .write-header .ensures)
-    (c .before .before .before .before .before .before .before .before .before .before .write-list .ensures)
-    (c .before .before .before .before .before .before .write-list2 .ensures)
-    (c .before .before .write-list3 .ensures)
+    let four = c .before .before in
+    let three = four .before .before .before .before in
+    let two = three .before .before .before .before in
+    let one = two .before .before .before .before in
+    sections-written _ _ _ _ _ _ _ _ _ _ (one .before .before .before .before .before .before .pre)
+    (one .write-header .ensures)
+    (two .write-list .ensures)
+    (three .write-list2 .ensures)
+    (four .write-list3 .ensures)
 
 pub write-sections-spec : {M : Type 1} → statement M
 write-sections-spec =
