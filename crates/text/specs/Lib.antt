@@ -1,0 +1,3 @@
+-- What the trace program prints, and laws of it. Assumes nothing.
+pub mod Text
+pub mod Laws
