@@ -44,7 +44,7 @@ pub record Typed (r : Run) : Type 0 where
 
 -- ---- What the image writer wrote, `restore` reads as the same run, for every sound run.
 
-storable : (r : Run) → Sound r → Typed r → Storable (r .pages) (r .slots) (r .served) (r .hits) (r .misses) (r .best) (r .layer) (r .priority) (r .held)
+pub storable : (r : Run) → Sound r → Typed r → Storable (r .pages) (r .slots) (r .served) (r .hits) (r .misses) (r .best) (r .layer) (r .priority) (r .held)
 storable r w t =
     record {
       limits = (w .pages .0, w .pages .1, w .slots .0, w .slots .1, w .slots .2);
@@ -166,7 +166,7 @@ typed-counted r p hit miss held w t l =
       best = omega (arith, bit-le (eqb (layer r p) 0), w .best, w .counts, w .served);
     }
 
-typed-request : (r : Run) (p : ℕ) → Sound r → Typed r → p < r .pages → r .served < most-served → Typed (requested r p .run)
+pub typed-request : (r : Run) (p : ℕ) → Sound r → Typed r → p < r .pages → r .served < most-served → Typed (requested r p .run)
 typed-request r p w t l room =
     ⊎-elim
     (λ h. subst Typed (sym (h .run)) (typed-counted r p 1 0 (r .held) w t (t .slots)))

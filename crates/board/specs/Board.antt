@@ -1,0 +1,56 @@
+-- Document 01, 'House layouts': the board entry. The image is read, one request served, and the image written in place.
+-- Assumes nothing.
+use mathlib.Core.List.{List}
+use mathlib.Core.Path.{_≡_}
+use Prim.Native.Nat.{ℕ, _+_, _*_, _<_}
+use lib.ListN.{length}
+use Rattle.words.specs.Words.{put}
+use Rattle.serve.specs.declared.Event.{Event}
+use Rattle.serve.specs.declared.Event.the-variants.{Hit, Miss, Refused}
+use Rattle.image.specs.Layout.{image-length}
+use Rattle.run.specs.declared.Served.{Served}
+use Rattle.run.specs.declared.Reading.{Reading}
+use Rattle.run.specs.declared.Reading.the-variants.{Accepted, Refused as Unread}
+use Rattle.run.specs.Sound.{Sound}
+use Rattle.run.specs.Request.{requested}
+use Rattle.run.specs.Stored.{restored, image-of}
+
+-- The answer is one number: victim in bits 0 to 9 (0 on a hit), slot in bits 10 to 15, bit 16 set on a miss, refusal in bits
+-- 24 to 31, all else 0.
+unfoldable pub packed : Event → ℕ
+packed (Hit slot) = 1024 * slot
+packed (Miss slot victim) = victim + 1024 * slot + 65536
+packed (Refused n) = 16777216 * n
+
+-- An event whose numbers have room in their bits. Every event of a sound run is one (`small-event` of Laws); a refusal is a byte.
+unfoldable pub Small : Event → Type 0
+Small (Hit slot) = slot < 64
+Small (Miss slot victim) = (slot < 64) × (victim < 1024)
+Small (Refused n) = Unit {0}
+
+-- What is in the image after a request: the next run's image, or, beside a refusal, what was there.
+unfoldable pub image-after : List ℕ → Served → Event → List ℕ
+image-after b s (Hit slot) = put b 0 (image-of (s .run))
+image-after b s (Miss slot victim) = put b 0 (image-of (s .run))
+image-after b s (Refused n) = b
+
+-- A request's outcome that can be packed, and written over an image of exactly its run's length.
+pub record Fits (b : List ℕ) (s : Served) : Type 0 where
+  pub sound-is : Sound (s .run)
+  pub total : length b ≡ image-length (s .run .pages) (s .run .slots)
+  pub small : Small (s .event)
+
+-- Refusals: image reader's, then request's.
+unfoldable pub answer-of : Reading → Served → ℕ
+answer-of Accepted s = packed (s .event)
+answer-of (Unread n) s = packed (Refused n)
+
+unfoldable pub image-of-reading : List ℕ → Reading → Served → List ℕ
+image-of-reading b Accepted s = image-after b s (s .event)
+image-of-reading b (Unread n) s = b
+
+unfoldable pub board-answer : List ℕ → ℕ → ℕ
+board-answer b page = answer-of (restored b .event) (requested (restored b .run) page)
+
+unfoldable pub board-image : List ℕ → ℕ → List ℕ
+board-image b page = image-of-reading b (restored b .event) (requested (restored b .run) page)
