@@ -1,0 +1,72 @@
+// What the trace program prints: the whole answer of a trace file, written into a lent buffer. Assumes nothing.
+ghost use mathlib.Core.Path.{_≡_};
+ghost use Prim.Native.Nat.{_+_, _*_, _≤_};
+ghost use lib.ListN.{length};
+ghost use Rattle.words.specs.Words.{put};
+ghost use Rattle.run.specs.Sound.{Sound};
+ghost use Rattle.player.specs.Answer.{lines, answer-length, answered};
+ghost use Rattle.player.specs.Laws.{asked};
+use run::Run;
+
+// A buffer of this size has room for every answer.
+pub const ROOM: usize = 3000208;
+
+// A buffer with room for every answer. The `ensures` gives only the length, which lending the array as a slice needs.
+pub fn buffer() -> [u8; 3000208]
+    ensures { λ r. ⌜ 3000208 ≡ length r ⌝ }
+{
+    [0; 3000208]
+}
+
+// Writes the lines of requests and the last line at an offset, and answers the offset behind them.
+fn write_lines<'a>(
+    file: &'a [u8],
+    offset: usize,
+    requests: usize,
+    start: Run,
+    out: &'a mut [u8],
+    at: usize,
+) -> usize
+    requires { ⌜ Sound start × (at + 100 * requests + 108 ≤ length (now out)) ⌝ }
+    ensures offset { λ r. ⌜ r ≡ at + length (lines start (asked (now (file .entry)) offset requests)) ⌝ }
+    ensures text { λ _. ⌜ now (out .exit) ≡ put (now (out .entry)) at (lines start (asked (now (file .entry)) offset requests)) ⌝ }
+{
+    let mut run = start;
+    let mut next = at;
+    let mut i = 0;
+    while i < requests {
+        let page = trace::request_at(file, offset, i);
+        let served = run.request_of_sound(page as usize);
+        let event = served.event;
+        next = text::write_line(out, next, page as u64, event, served.best as u64);
+        run = served.run;
+        i += 1;
+    }
+    text::write_last_line(
+        out,
+        next,
+        run.served as u64,
+        run.hits as u64,
+        run.misses as u64,
+        run.best as u64,
+    )
+}
+
+// Writes the answer of a trace file to the start of a buffer and answers its length: 0, and nothing written, without room.
+pub fn answer(file: &[u8], out: &mut [u8]) -> usize
+    ensures offset { λ r. ⌜ r ≡ answer-length (now (file .entry)) (now (out .entry)) ⌝ }
+    ensures text { λ _. ⌜ now (out .exit) ≡ answered (now (file .entry)) (now (out .entry)) ⌝ }
+{
+    if out.len() < ROOM {
+        return 0;
+    }
+    let traced = trace::read(file);
+    let refusal = traced.refusal;
+    if refusal != 0 {
+        return text::write_refused(out, 0, refusal as u64);
+    }
+    let run = traced.run;
+    let requests = traced.requests;
+    let next = text::write_first_line(out, 0, run.pages as u64, run.slots as u64, requests as u64);
+    write_lines(file, traced.offset, requests, run, out, next)
+}
