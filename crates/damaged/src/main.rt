@@ -85,14 +85,21 @@ fn header_by_one(b: [u8; 80], words: usize, n: usize, image: bool) {
     end_line();
 }
 
-// N and k at 0, past their limits and at 2^32 - 1; every offset at 2^32 - 1.
+// N and k, at the offset, at 0, at both limits, past them and at 2^32 - 1.
+fn size_at(b: [u8; 80], at: usize, most: u32, n: usize, image: bool) {
+    part(with_number(b, at, 0), n, image);
+    part(with_number(b, at, 1), n, image);
+    part(with_number(b, at, most), n, image);
+    if most < 4294967295 {
+        part(with_number(b, at, most + 1), n, image);
+    }
+    part(with_number(b, at, 4294967295), n, image);
+}
+
+// Both sizes at their extremes, then every offset at 2^32 - 1.
 fn extremes(b: [u8; 80], words: usize, n: usize, image: bool) {
-    part(with_number(b, 0, 0), n, image);
-    part(with_number(b, 0, 1025), n, image);
-    part(with_number(b, 0, 4294967295), n, image);
-    part(with_number(b, 4, 0), n, image);
-    part(with_number(b, 4, 65), n, image);
-    part(with_number(b, 4, 4294967295), n, image);
+    size_at(b, 0, 1024, n, image);
+    size_at(b, 4, 64, n, image);
     let mut i = 3;
     while i < words {
         if i < 20 {

@@ -10,41 +10,11 @@ Inv-loop b words n image i₀ i = Unit {0}
 abbrev μ-loop : tie.MeasureT-loop
 μ-loop b words n image i₀ i = words - i
 
-with-number-requires : tie.Need-with-number-requires Inv-loop μ-loop
-with-number-requires c κs = search needs
+size-at-requires : tie.Need-size-at-requires Inv-loop μ-loop
+size-at-requires c κs = search needs
 
-part-requires : tie.Need-part-requires Inv-loop μ-loop
-part-requires c κs = search needs
-
-with-number-requires-2 : tie.Need-with-number-requires-2 Inv-loop μ-loop
-with-number-requires-2 c κs = search needs
-
-part-requires-2 : tie.Need-part-requires-2 Inv-loop μ-loop
-part-requires-2 c κs = search needs
-
-with-number-requires-3 : tie.Need-with-number-requires-3 Inv-loop μ-loop
-with-number-requires-3 c κs = search needs
-
-part-requires-3 : tie.Need-part-requires-3 Inv-loop μ-loop
-part-requires-3 c κs = search needs
-
-with-number-requires-4 : tie.Need-with-number-requires-4 Inv-loop μ-loop
-with-number-requires-4 c κs = search needs
-
-part-requires-4 : tie.Need-part-requires-4 Inv-loop μ-loop
-part-requires-4 c κs = search needs
-
-with-number-requires-5 : tie.Need-with-number-requires-5 Inv-loop μ-loop
-with-number-requires-5 c κs = search needs
-
-part-requires-5 : tie.Need-part-requires-5 Inv-loop μ-loop
-part-requires-5 c κs = search needs
-
-with-number-requires-6 : tie.Need-with-number-requires-6 Inv-loop μ-loop
-with-number-requires-6 c κs = search needs
-
-part-requires-6 : tie.Need-part-requires-6 Inv-loop μ-loop
-part-requires-6 c κs = search needs
+size-at-requires-2 : tie.Need-size-at-requires-2 Inv-loop μ-loop
+size-at-requires-2 c κs = search needs
 
 loop-holds : tie.Need-loop-holds Inv-loop μ-loop
 loop-holds c = search needs
@@ -52,11 +22,11 @@ loop-holds c = search needs
 mul-with-number : tie.Need-mul-with-number Inv-loop μ-loop
 mul-with-number c = search needs
 
-with-number-requires-7 : tie.Need-with-number-requires-7 Inv-loop μ-loop
-with-number-requires-7 c κs = search needs
+with-number-requires : tie.Need-with-number-requires Inv-loop μ-loop
+with-number-requires c κs = search needs
 
-part-requires-7 : tie.Need-part-requires-7 Inv-loop μ-loop
-part-requires-7 c κs = search needs
+part-requires : tie.Need-part-requires Inv-loop μ-loop
+part-requires c κs = search needs
 
 add-i : tie.Need-add-i Inv-loop μ-loop
 add-i c = search needs
@@ -79,22 +49,12 @@ extremes-spec =
     (tie.spec
     Inv-loop
     μ-loop
-    with-number-requires
-    part-requires
-    with-number-requires-2
-    part-requires-2
-    with-number-requires-3
-    part-requires-3
-    with-number-requires-4
-    part-requires-4
-    with-number-requires-5
-    part-requires-5
-    with-number-requires-6
-    part-requires-6
+    size-at-requires
+    size-at-requires-2
     loop-holds
     mul-with-number
-    with-number-requires-7
-    part-requires-7
+    with-number-requires
+    part-requires
     add-i
     loop-less
     loop-again
