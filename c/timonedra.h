@@ -7,7 +7,8 @@
 #include <stdint.h>
 
 /* Serves one request for a page and writes the next run over the image. Beside a refusal no byte of the image changes.
-   It writes nothing outside the length bytes, keeps nothing between calls and allocates nothing. */
+   It writes nothing outside the length bytes of the image and keeps nothing between calls. Its working room is on the stack:
+   several copies of a run, each above 3 KB whatever N and k are. How much in all has not been measured: do so before use. */
 uint32_t timonedra_serve(uint8_t *image, size_t length, uint32_t page);
 
 /* The answer's parts. Beside a refusal all others are 0; on a hit the victim is 0. */
