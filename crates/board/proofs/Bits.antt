@@ -1,11 +1,12 @@
 -- The packed answer by shifts and masks is the sum that the layout says. Assumes nothing.
 use mathlib.Core.Path.{_≡_, _∙_}
 use Prim.Native.Nat.{ℕ, _+_, _*_, _%_, _<_}
-use native.Mathlib.Nat.{mod-eq-of-lt, mul-comm}
+use native.Mathlib.Nat.{mod-eq-of-lt}
 use native.Mathlib.Omega.{arith}
 use lib.Bits.{bitOr, bitAnd, and-mask, or-shifted-r}
 use Rattle.serve.specs.declared.Event.{Event}
 use Rattle.serve.specs.declared.Event.the-variants.{Hit, Miss, Refused}
+use Rattle.serve.specs.Event.{values}
 use Rattle.board.specs.Board.{Small, packed}
 
 -- a number that has room in its bits, moved up
@@ -22,17 +23,17 @@ small-miss e slot victim w h = rw h at w
 
 module _ (e : Event) (w : Small e) where
   pub pack-hit : (slot : ℕ) → e ≡ Hit slot → bitAnd slot 63 * 1024 % 4294967296 ≡ packed e
-  unfolding packed
-  pack-hit slot h = rw h (slot-bits slot (small-hit e slot w h) ∙ mul-comm slot 1024)
+  unfolding packed values
+  pack-hit slot h = rw h (slot-bits slot (small-hit e slot w h) ∙ omega arith)
 
   pub pack-miss :
       (slot victim : ℕ) → e ≡ Miss slot victim → bitOr (bitOr (bitAnd victim 1023) (bitAnd slot 63 * 1024 % 4294967296)) 65536 ≡ packed e
-  unfolding packed
+  unfolding packed values
   pack-miss slot victim h =
       let (ls, lv) = small-miss e slot victim w h in
       rw (h, slot-bits slot ls, and-mask victim 10, mod-eq-of-lt lv, or-shifted-r slot 10 victim lv)
       (or-shifted-r 1 16 (slot * 1024 + victim) (omega arith) ∙ omega arith)
 
 pub pack-refused : (e : Event) (n : ℕ) → n < 256 → e ≡ Refused n → n * 16777216 % 4294967296 ≡ packed e
-unfolding packed
-pack-refused e n l h = rw h (mod-eq-of-lt (omega arith) ∙ mul-comm n 16777216)
+unfolding packed values
+pack-refused e n l h = rw h (mod-eq-of-lt (omega arith) ∙ omega arith)

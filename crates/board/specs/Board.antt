@@ -2,11 +2,13 @@
 -- Assumes nothing.
 use mathlib.Core.List.{List}
 use mathlib.Core.Path.{_≡_}
-use Prim.Native.Nat.{ℕ, _+_, _*_, _<_}
+use Prim.Native.Nat.{ℕ, _+_, _*_, _/_, _%_, _<_}
 use lib.ListN.{length}
 use Rattle.words.specs.Words.{put}
 use Rattle.serve.specs.declared.Event.{Event}
 use Rattle.serve.specs.declared.Event.the-variants.{Hit, Miss, Refused}
+use Rattle.serve.specs.Event.{values}
+use Rattle.board.specs.declared.Parts.{Parts}
 use Rattle.image.specs.Layout.{image-length}
 use Rattle.run.specs.declared.Served.{Served}
 use Rattle.run.specs.declared.Reading.{Reading}
@@ -18,9 +20,11 @@ use Rattle.run.specs.Stored.{restored, image-of}
 -- The answer is one number: victim in bits 0 to 9 (0 on a hit), slot in bits 10 to 15, bit 16 set on a miss, refusal in bits
 -- 24 to 31, all else 0.
 unfoldable pub packed : Event → ℕ
-packed (Hit slot) = 1024 * slot
-packed (Miss slot victim) = victim + 1024 * slot + 65536
-packed (Refused n) = 16777216 * n
+packed e = values e .victim + 1024 * values e .slot + 65536 * values e .miss + 16777216 * values e .refusal
+
+-- The four numbers in such an answer.
+unfoldable pub apart : ℕ → Parts
+apart n = record { refusal = n / 16777216; miss = n / 65536 % 2; slot = n / 1024 % 64; victim = n % 1024 }
 
 -- An event whose numbers have room in their bits. Every event of a sound run is one (`small-event` of Laws); a refusal is a byte.
 unfoldable pub Small : Event → Type 0

@@ -1,5 +1,4 @@
--- The board entry: its meaning, its laws, its theorems and its worked answers. Assumes nothing.
+-- The board entry: its meaning, its laws and its theorems. Assumes nothing.
 pub mod Board
 pub mod Laws
 pub mod Theorems
-pub mod Worked

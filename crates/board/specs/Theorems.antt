@@ -7,7 +7,7 @@ use Prim.Native.Nat.{ℕ, _+_, _*_, _/_, _≤_, _<_}
 use native.Mathlib.Omega.{arith}
 use lib.ListN.{length, getD, take, drop, length-drop}
 use lib.Seq.{length-take-le}
-use Rattle.serve.specs.declared.Event.the-variants.{Refused}
+use Rattle.serve.specs.declared.Event.the-variants.{Hit, Miss, Refused}
 use Rattle.run.specs.declared.Run.{Run}
 use Rattle.run.specs.declared.Served.{Served}
 use Rattle.run.specs.declared.Reading.the-variants.{Accepted, Refused as Unread}
@@ -25,8 +25,26 @@ use Rattle.run.specs.Request.{requested}
 use Rattle.run.specs.Stored.{image-run, restored, image-of}
 use Rattle.run.specs.StoredTheorems.{Typed, storable, stored-reads-back, typed-request}
 use Rattle.run.specs.Theorems.{IsHit, IsMiss, request-is-sound}
-use Rattle.board.specs.Board.{Small, packed, image-after, answer-of, image-of-reading, board-answer, board-image}
+use Rattle.serve.specs.declared.Event.{Event}
+use Rattle.serve.specs.Event.{Values, values}
+use Rattle.board.specs.declared.Parts.{Parts}
+use Rattle.board.specs.Board.{Small, packed, apart, image-after, answer-of, image-of-reading, board-answer, board-image}
 use Rattle.board.specs.Laws.{Taken, taken-or-not, served-or-not, request-fits}
+
+-- ---- A packed answer, taken apart, gives this paper's values of its event.
+
+abbrev pub parts : Values → Parts
+parts v = record { refusal = v .refusal; miss = v .miss; slot = v .slot; victim = v .victim }
+
+four : {a b c d a' b' c' d' : ℕ} → a ≡ a' → b ≡ b' → c ≡ c' → d ≡ d' →
+    _≡_ {A = Parts} (record { refusal = a; miss = b; slot = c; victim = d }) (record { refusal = a'; miss = b'; slot = c'; victim = d' })
+four p q r s = rw (p, q, r, s)
+
+pub apart-packed : (e : Event) → Small e → apart (packed e) ≡ parts (values e)
+unfolding apart packed values Small
+apart-packed (Hit s) w = four (omega arith) (omega arith) (omega arith) (omega arith)
+apart-packed (Miss s v) w = four (omega (arith, w)) (omega (arith, w)) (omega (arith, w)) (omega (arith, w))
+apart-packed (Refused n) w = four (omega arith) (omega arith) (omega arith) (omega arith)
 
 -- ---- A call is refused, or it serves its page and leaves the image of the next run.
 
@@ -62,13 +80,13 @@ module _ (b : List ℕ) (page : ℕ) where
   r = restored b .run
 
   unread : (n : ℕ) → restored b .event ≡ Unread n → 0 < n → Kept b page
-  unfolding board-answer board-image answer-of image-of-reading packed
-  unread n e pos = record { number = n; some-number = pos; answer = rw e; image = rw e }
+  unfolding board-answer board-image answer-of image-of-reading packed values
+  unread n e pos = record { number = n; some-number = pos; answer = rw e (omega arith); image = rw e }
 
   module _ (e : restored b .event ≡ Accepted) (t : Taken b) where
     refused : (n : ℕ) → requested r page .event ≡ Refused n → 0 < n → Kept b page
-    unfolding board-answer board-image answer-of image-of-reading image-after packed
-    refused n h pos = record { number = n; some-number = pos; answer = rw (e, h); image = rw (e, h) }
+    unfolding board-answer board-image answer-of image-of-reading image-after packed values
+    refused n h pos = record { number = n; some-number = pos; answer = rw (e, h) (omega arith); image = rw (e, h) }
 
     moved :
         page < r .pages →
@@ -83,13 +101,13 @@ module _ (b : List ℕ) (page : ℕ) where
     small = request-fits b page t .small
 
     hit : page < r .pages → r .served < most-served → IsHit r page → Moved b page
-    unfolding board-answer board-image answer-of image-of-reading image-after packed Small
+    unfolding board-answer board-image answer-of image-of-reading image-after packed values Small
     hit l room h =
         let s : slot-of r page < 64 = rw (h .event) at small in
         moved l room (rw (e, h .event) (omega arith)) (rw (e, h .event))
 
     miss : page < r .pages → r .served < most-served → (v : ℕ) → IsMiss r page v → Moved b page
-    unfolding board-answer board-image answer-of image-of-reading image-after packed Small
+    unfolding board-answer board-image answer-of image-of-reading image-after packed values Small
     miss l room v m =
         let s : (slot-of r v < 64) × (v < 1024) = rw (m .event) at small in
         moved l room (rw (e, m .event) (omega arith)) (rw (e, m .event))

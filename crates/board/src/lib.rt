@@ -1,13 +1,33 @@
 // The entry for the board's C program: one request to the run in an image. Assumes nothing.
 ghost use mathlib.Core.Path.{_≡_};
-ghost use Rattle.board.specs.Board.{Small, Fits, packed, image-after, board-answer, board-image};
+ghost use Rattle.board.specs.Board.{Small, Fits, packed, apart, image-after, board-answer, board-image};
 use run::Reading;
 use run::Run;
 use run::Served;
 use serve::Event;
 
+// The four numbers of a packed answer: the refusal, 1 on a miss, the slot, the victim.
+pub struct Parts {
+    pub refusal: u32,
+    pub miss: u32,
+    pub slot: u32,
+    pub victim: u32,
+}
+
+// Takes a packed answer apart.
+pub fn unpack(answer: u32) -> Parts
+    ensures { λ r. ⌜ r ≡ apart answer ⌝ }
+{
+    Parts {
+        refusal: answer >> 24,
+        miss: (answer >> 16) & 1,
+        slot: (answer >> 10) & 63,
+        victim: answer & 1023,
+    }
+}
+
 // The packed answer of an event: victim in bits 0 to 9, slot in bits 10 to 15, bit 16 on a miss, refusal in bits 24 to 31.
-pub fn pack(event: Event) -> u32
+fn pack(event: Event) -> u32
     requires { ⌜ Small event ⌝ }
     ensures { λ r. ⌜ r ≡ packed event ⌝ }
 {

@@ -12,18 +12,13 @@ use lib.Seq.{getD-set-same, getD-set-other, ext-getD}
 use borrow.Author.Tests.{eqb-true, eq-eqb, leb-true, le-leb}
 use Rattle.paging.specs.Sets.{first, table}
 use Rattle.paging.specs.Tests.{isnt, same-test, and-in, and-left, and-right, same-or-not, le-or-lt}
-use Rattle.paging.specs.Words.{first-some, first-is}
+use Rattle.paging.specs.Words.{first-some, first-is, first-same}
 use Rattle.paging.specs.Tables.{table-at, table-past, table-length}
 use Rattle.slots.specs.Slots.{near-to, least-key}
 use Rattle.certify.specs.Test.{far, bar-key}
 use Rattle.certify.proofs.Marks.{replicate-at}
 
 -- ---- the first full layer
-
-first-same : (n : ℕ) (f g : ℕ → Bool) → ((j : ℕ) → f j ≡ g j) → Path (Option ℕ) (first n f) (first n g)
-unfolding first
-first-same zero f g h = refl
-first-same (suc n) f g h = rw (first-same n f g h, h n)
 
 module _ (near : List ℕ) (k : ℕ) where
   abbrev full : ℕ → ℕ → Bool

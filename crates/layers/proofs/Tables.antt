@@ -16,7 +16,7 @@ use Rattle.paging.specs.Moves.{bar, next-moved}
 use Rattle.layers.specs.Asked.{layer-at, asked, lowered, sunk}
 use Rattle.layers.specs.Seen.{seen-marks}
 use Rattle.layers.specs.Laws.{sunk-past, next-lowered}
-use Rattle.paging.specs.Tables.{listed-length, listed-entry, listed-same}
+use Rattle.paging.specs.Tables.{listed-length, listed-entry, listed-set}
 
 -- ---- sink, sink_near: one entry more is lowered
 
@@ -42,23 +42,6 @@ pub sunk-step :
     v ≡ lowered from (getD out q 0) →
     set out q v ≡ sunk from (q + 1) l
 sunk-step from l out q v h e g = rw (g, e, sunk-past from q l q (omega arith), add-one q) (sunk-suc from l q h)
-
--- ---- one store into a list of f 0, f 1, ..
-
-listed-set :
-    (n : ℕ) (f g : ℕ → ℕ) (i v : ℕ) →
-    i < n →
-    v ≡ g i →
-    ((j : ℕ) → j < n → (j ≡ i → ⊥) → f j ≡ g j) →
-    set (listed n f) i v ≡ listed n g
-unfolding listed
-listed-set zero f g i v h e s = absurd (omega arith)
-listed-set (suc n) f g zero v h e s =
-    let tail = listed-same n (λ j. f (suc j)) (λ j. g (suc j)) (λ j l. s (suc j) (omega arith) (λ z. omega arith)) in
-    rw e (ap (λ (t : List ℕ). g 0 ∷ t) tail)
-listed-set (suc n) f g (suc i) v h e s =
-    let tail = listed-set n (λ j. f (suc j)) (λ j. g (suc j)) i v (omega arith) e (λ j l ne. s (suc j) (omega arith) (λ z. ne (omega arith))) in
-    rw (s 0 (omega arith) (λ z. omega arith)) (ap (λ (t : List ℕ). g 0 ∷ t) tail)
 
 -- ---- ask: the layers sunk, and the page on top
 

@@ -89,7 +89,7 @@ pub fn bounded(layer: &[u8; 1024], pages: usize, slots: u8) -> bool
 }
 
 // A layer as an index. That it is a byte is said here, where it is known.
-fn wide(x: u8) -> usize
+pub fn wide(x: u8) -> usize
     ensures { λ r. ⌜ (r ≡ x) × (r < 256) ⌝ }
 {
     x as usize

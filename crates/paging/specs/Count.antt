@@ -3,6 +3,7 @@
 --     count-same       f and g have the same members        count f ≡ count g
 --     count-cover      f is inside g and h together         count f ≤ count g + count h
 --     count-disjoint   f and g are apart, and inside h      count f + count g ≤ count h
+--     count-most       a set has no more than all           count f n ≤ n
 --     count-none       f has no member                      count f ≡ 0
 --     count-single     {p}                                  1
 --     count-one        all members are equal                count f ≤ 1
@@ -20,7 +21,7 @@ use native.Mathlib.Omega.{arith}
 use lib.Dec.{eqb}
 use borrow.Author.Tests.{eqb-true, eq-eqb, ne-eqb, not-true}
 use Rattle.paging.specs.Sets.{Pages, _∈_, Same, bit, count, without, remove, insert}
-use Rattle.paging.specs.Tests.{truth, clash, isnt, is, same-test, and-left, and-right, or-left, or-right, or-cases, same-or-not}
+use Rattle.paging.specs.Tests.{truth, clash, isnt, is, bit-le, same-test, and-left, and-right, or-left, or-right, or-cases, same-or-not}
 
 -- the set of one page
 abbrev pub single : ℕ → Pages
@@ -74,6 +75,11 @@ bit-disjoint false true false hx hy apart = absurd (clash (hy refl) refl)
 bit-disjoint true false true hx hy apart = omega arith
 bit-disjoint true false false hx hy apart = absurd (clash (hx refl) refl)
 bit-disjoint true true z hx hy apart = absurd (apart refl refl)
+
+pub count-most : (f : Pages) (n : ℕ) → count f n ≤ n
+unfolding count
+count-most f zero = omega arith
+count-most f (suc n) = omega (arith, count-most f n, bit-le (f n))
 
 pub count-mono : (f g : Pages) (n : ℕ) → Inside n f g → count f n ≤ count g n
 unfolding empty

@@ -56,6 +56,22 @@ listed-entry zero f d q l = absurd (omega arith)
 listed-entry (suc n) f d zero l = refl
 listed-entry (suc n) f d (suc q) l = listed-entry n (λ i. f (suc i)) d q (omega arith)
 
+-- one store into a list of f 0, f 1, ..
+pub listed-set :
+    (n : ℕ) (f g : ℕ → ℕ) (i v : ℕ) →
+    i < n →
+    v ≡ g i →
+    ((j : ℕ) → j < n → (j ≡ i → ⊥) → f j ≡ g j) →
+    set (listed n f) i v ≡ listed n g
+unfolding listed
+listed-set zero f g i v h e s = absurd (omega arith)
+listed-set (suc n) f g zero v h e s =
+    let tail = listed-same n (λ j. f (suc j)) (λ j. g (suc j)) (λ j l. s (suc j) (omega arith) (λ z. omega arith)) in
+    rw e (ap (λ (t : List ℕ). g 0 ∷ t) tail)
+listed-set (suc n) f g (suc i) v h e s =
+    let tail = listed-set n (λ j. f (suc j)) (λ j. g (suc j)) i v (omega arith) e (λ j l ne. s (suc j) (omega arith) (λ z. ne (omega arith))) in
+    rw (s 0 (omega arith) (λ z. omega arith)) (ap (λ (t : List ℕ). g 0 ∷ t) tail)
+
 -- ---- tables
 
 pub table-none : {A : Type 0} (size : ℕ) (d : A) (f : ℕ → A) → table size 0 d f ≡ replicate size d

@@ -109,6 +109,11 @@ first-is n f i w =
     let (j, le, ex) = first-found n f i (w .below) (w .member) in
     ex ∙ ap some (⊎-elim (λ h. omega arith) (λ h. absurd (clash (first-some n f j ex .member) (w .none-before j h))) (le-or-lt i j))
 
+pub first-same : (n : ℕ) (f g : ℕ → Bool) → ((j : ℕ) → f j ≡ g j) → Path (Option ℕ) (first n f) (first n g)
+unfolding first
+first-same zero f g h = refl
+first-same (suc n) f g h = rw (first-same n f g h, h n)
+
 -- ---- the lowest-ranking page
 
 -- v is the page of X that every other page of X outranks

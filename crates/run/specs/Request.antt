@@ -7,6 +7,7 @@ use Rattle.run.specs.declared.Run.{Run}
 use Rattle.run.specs.declared.Served.{Served}
 use Rattle.serve.specs.declared.Event.{Event}
 use Rattle.serve.specs.declared.Event.the-variants.{Hit, Miss, Refused}
+use Rattle.serve.specs.Event.{Values}
 use Rattle.paging.specs.Sets.{_=?_, _<?_, if_then_else_, unless_give_else_, bit, table}
 use Rattle.paging.specs.Layers.{next}
 use Rattle.paging.specs.Certificate.{held}
@@ -57,6 +58,22 @@ requested r p =
     unless p <? r .pages give refused r 8 else
     unless r .served <? most-served give refused r 9 else
     served r p
+
+-- This paper's number and values of the answer to a request or trial, without the enum: 1, 8, 9; then hit or miss, the slot
+-- and the victim; 17. `values` reads them off an event.
+abbrev pub refusal-values : ℕ → Values
+refusal-values n = record { refusal = n; miss = 0; slot = 0; victim = 0 }
+
+unfoldable pub miss-values : Run → Option ℕ → Values
+miss-values r none = refusal-values 17
+miss-values r (some v) = record { refusal = 0; miss = 1; slot = slot-of r v; victim = v }
+
+unfoldable pub request-values : Run → ℕ → Values
+request-values r p =
+    unless sound r give refusal-values 1 else
+    unless p <? r .pages give refusal-values 8 else
+    unless r .served <? most-served give refusal-values 9 else
+    if cached r p then record { refusal = 0; miss = 0; slot = slot-of r p; victim = 0 } else miss-values r (victim-of r p)
 
 -- A trial request answers and keeps nothing.
 unfoldable pub tried : Run → ℕ → Served

@@ -1,7 +1,8 @@
 -- A request as the code takes it: its refusals first, then the serving. Assumes nothing.
 use mathlib.Core.Bool.{Bool, true, false}
 use mathlib.Core.Logic.{_⊎_, inl, inr}
-use mathlib.Core.Path.{_≡_, _∙_}
+use mathlib.Core.Option.{Option, none, some}
+use mathlib.Core.Path.{_≡_, refl, ap, _∙_}
 use Prim.Native.Nat.{ℕ, _≤_, _<_}
 use native.Mathlib.Omega.{arith}
 use lib.Dec.{ltb}
@@ -9,11 +10,13 @@ use borrow.Author.Tests.{lt-ltb, le-ltb, ltb-true}
 use Rattle.serve.specs.declared.Event.the-variants.{Refused}
 use Rattle.run.specs.declared.Run.{Run}
 use Rattle.run.specs.declared.Served.{Served}
-use Rattle.paging.specs.Sets.{_<?_, unless_give_else_}
+use Rattle.paging.specs.Sets.{_<?_, if_then_else_, unless_give_else_}
 use Rattle.paging.specs.Tests.{truth}
 use Rattle.run.specs.Numbers.{most-served}
 use Rattle.run.specs.Sound.{Sound, sound}
-use Rattle.run.specs.Request.{served, requested}
+use Rattle.serve.specs.Event.{Values, values}
+use Rattle.run.specs.Cached.{cached, slot-of, victim-of}
+use Rattle.run.specs.Request.{served, requested, refused, with-hit, with-miss, refusal-values, miss-values, request-values}
 use Rattle.run.specs.SoundLaws.{sound-iff}
 
 -- 1, 8, 9, or 0.
@@ -23,6 +26,40 @@ request-refusal r p =
     unless p <? r .pages give 8 else
     unless r .served <? most-served give 9 else
     0
+
+-- ---- the paper's values of the answer
+
+missed-values : (r : Run) (p : ℕ) (v : Option ℕ) → values (with-miss r p v .event) ≡ miss-values r v
+unfolding values with-miss miss-values
+missed-values r p none = refl
+missed-values r p (some v) = refl
+
+served-values :
+    (r : Run) (p : ℕ) (hit : Bool) →
+    values ((if hit then with-hit r p else with-miss r p (victim-of r p)) .event)
+    ≡ (if hit then record { refusal = 0; miss = 0; slot = slot-of r p; victim = 0 } else miss-values r (victim-of r p))
+unfolding values with-hit
+served-values r p true = refl
+served-values r p false = missed-values r p (victim-of r p)
+
+-- The values of a request's event are those that document 01 gives.
+pub requested-values : (r : Run) (p : ℕ) → values (requested r p .event) ≡ request-values r p
+unfolding requested request-values served values
+requested-values r p = go (sound r) (ltb p (r .pages)) (ltb (r .served) most-served)
+  where
+    go :
+        (a b c : Bool) →
+        values ((unless a give refused r 1 else unless b give refused r 8 else unless c give refused r 9 else served r p) .event)
+        ≡ (unless a give refusal-values 1 else unless b give refusal-values 8 else unless c give refusal-values 9 else
+        if cached r p then record { refusal = 0; miss = 0; slot = slot-of r p; victim = 0 } else miss-values r (victim-of r p))
+    go false b c = refl
+    go true false c = refl
+    go true true false = refl
+    go true true true = served-values r p (cached r p)
+
+-- What a request's two promises say, from the first of them.
+pub with-values : (r : Run) (p : ℕ) (x : Served) → x ≡ requested r p → (x ≡ requested r p) × (values (x .event) ≡ request-values r p)
+with-values r p x e = (e, ap (λ (y : Served). values (y .event)) e ∙ requested-values r p)
 
 module _ (r : Run) (p : ℕ) where
   pub refuse-unsound : sound r ≡ false → 1 ≡ request-refusal r p

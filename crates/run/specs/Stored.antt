@@ -46,6 +46,13 @@ restored b =
     unless marks-agree (pages-in b) (slots-in b) b && sound (image-run b) give no-run 1 else
     record { run = image-run b; event = Accepted }
 
+-- The first of these refusals that applies, 0 if none does: what `reading-number` reads off the answer.
+unfoldable pub restore-refusal : List ℕ → ℕ
+restore-refusal b =
+    unless image-refusal b =? 0 give image-refusal b else
+    unless marks-agree (pages-in b) (slots-in b) b && sound (image-run b) give 1 else
+    0
+
 -- The image of a run.
 unfoldable pub image-of : Run → List ℕ
 image-of r =

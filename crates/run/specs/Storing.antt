@@ -1,5 +1,5 @@
 -- The image reader and writer as the code takes them. Assumes nothing.
-use mathlib.Core.Bool.{Bool, true, false}
+use mathlib.Core.Bool.{Bool, true, false, _&&_}
 use mathlib.Core.List.{List}
 use mathlib.Core.Path.{_≡_, refl, sym, ap, _∙_}
 use mathlib.Core.Logic.{_⊎_, inl, inr}
@@ -12,6 +12,7 @@ use Rattle.run.specs.declared.Run.{Run}
 use Rattle.run.specs.declared.Reading.the-variants.{Accepted, Refused}
 use Rattle.run.specs.declared.Restored.{Restored}
 use Rattle.run.specs.declared.Stored.{Stored}
+use Rattle.paging.specs.Sets.{_=?_, unless_give_else_}
 use Rattle.paging.specs.Tests.{truth}
 use Rattle.words.specs.Words.{word-at, put}
 use Rattle.image.specs.Layout.{image-length, pages-in, slots-in, image-refusal, image-layers, image-slots}
@@ -19,7 +20,7 @@ use Rattle.image.specs.Layout.{image-priorities, marks-agree}
 use Rattle.image.specs.Laws.{refusal-read}
 use Rattle.run.specs.Numbers.{layer, blank-run}
 use Rattle.run.specs.Sound.{sound}
-use Rattle.run.specs.Stored.{stored-bytes, image-run, restored, image-of, store-refusal, stored}
+use Rattle.run.specs.Stored.{stored-bytes, image-run, no-run, restored, restore-refusal, reading-number, image-of, store-refusal, stored}
 use Rattle.run.specs.SoundLaws.{sound-iff}
 
 -- ---- reading
@@ -58,6 +59,24 @@ module _ (b : List ℕ) (n : ℕ) (told : n ≡ image-refusal b) where
           _≡_ {A = Restored} (record { run = r; event = Accepted }) (restored b)
       unfolding restored
       restored-accepted r e h = rw (none, agree, rw e at h, e)
+
+-- the number of the answer is the first refusal that applies
+number-of-cases : (n : ℕ) (a b : Bool) (r : Run) →
+    reading-number ((unless a give no-run n else unless b give no-run 1 else record { run = r; event = Accepted }) .event)
+    ≡ (unless a give n else unless b give 1 else 0)
+unfolding reading-number
+number-of-cases n false b r = refl
+number-of-cases n true false r = refl
+number-of-cases n true true r = refl
+
+pub restored-number : (b : List ℕ) → reading-number (restored b .event) ≡ restore-refusal b
+unfolding restored restore-refusal
+restored-number b =
+    number-of-cases (image-refusal b) (image-refusal b =? 0) (marks-agree (pages-in b) (slots-in b) b && sound (image-run b)) (image-run b)
+
+-- What the reader's two promises say, from the first of them.
+pub with-number : (b : List ℕ) (x : Restored) → x ≡ restored b → (x ≡ restored b) × (reading-number (x .event) ≡ restore-refusal b)
+with-number b x e = (e, ap (λ (y : Restored). reading-number (y .event)) e ∙ restored-number b)
 
 -- what an image with the right length and header has room for
 pub image-fits :

@@ -7,11 +7,12 @@ ghost use Rattle.run.specs.Numbers.{most-served, blank-run};
 ghost use Rattle.run.specs.Start.{started, started-default};
 ghost use Rattle.run.specs.Starting.{list-refusal, begun-run};
 ghost use Rattle.run.specs.Sound.{Sound, sound};
-ghost use Rattle.run.specs.Request.{served, refused, requested, tried};
+ghost use Rattle.run.specs.Request.{served, refused, requested, request-values, tried};
+ghost use Rattle.serve.specs.Event.{values};
 ghost use Rattle.run.specs.Questions.{refusal, layer-answer, certain-answer, selection-answer};
 ghost use Rattle.run.specs.Serving.{with-counts, answered};
 ghost use Rattle.image.specs.Layout.{image-refusal};
-ghost use Rattle.run.specs.Stored.{image-run, restored, store-refusal, stored, stored-bytes};
+ghost use Rattle.run.specs.Stored.{image-run, restored, restore-refusal, reading-number, store-refusal, stored, stored-bytes};
 use serve::Event;
 
 pub struct Run {
@@ -300,7 +301,8 @@ impl Run {
 
     // Serves a request: the next run with the event, and best with this request counted. Refusals 1, 8, 9, 17: then this run.
     pub fn request(mut self, page: usize) -> Served
-        ensures { λ r. ⌜ r ≡ requested self page ⌝ }
+        ensures answer { λ r. ⌜ r ≡ requested self page ⌝ }
+        ensures numbers { λ r. ⌜ values (r .event) ≡ request-values self page ⌝ }
     {
         if !self.is_sound() {
             return self.refused(1);
@@ -310,7 +312,8 @@ impl Run {
 
     // Answers as a request would, and keeps nothing: this run comes back.
     pub fn trial(mut self, page: usize) -> Served
-        ensures { λ r. ⌜ r ≡ tried self page ⌝ }
+        ensures answer { λ r. ⌜ r ≡ tried self page ⌝ }
+        ensures numbers { λ r. ⌜ values (r .event) ≡ request-values self page ⌝ }
     {
         let served = self.request(page);
         let event = served.event;
@@ -414,7 +417,8 @@ impl Run {
 
     // Takes up the run in an image in this one's place. Refusals 13 (under 36), 2, 3, 15, 13 (total), 1: then the blank run.
     pub fn restore(mut self, image: &[u8]) -> Restored
-        ensures { λ r. ⌜ r ≡ restored (now (image .entry)) ⌝ }
+        ensures answer { λ r. ⌜ r ≡ restored (now (image .entry)) ⌝ }
+        ensures number { λ r. ⌜ reading-number (r .event) ≡ restore-refusal (now (image .entry)) ⌝ }
     {
         let number = image::refusal(image);
         if number != 0 {

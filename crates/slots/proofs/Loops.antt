@@ -4,20 +4,22 @@ use mathlib.Core.List.{List}
 use mathlib.Core.Logic.{⊎-elim}
 use mathlib.Core.Option.{Option, none, some}
 use mathlib.Core.Path.{Path, _≡_, refl, sym, ap, _∙_}
-use Prim.Native.Nat.{ℕ, _+_, min, _≤_, _<_}
+use Prim.Native.Nat.{ℕ, suc, _+_, min, _≤_, _<_}
 use native.Mathlib.Numerals.{add-one}
 use native.Mathlib.Omega.{arith}
-use lib.ListN.{length, getD, set, List·getD-eq-default}
+use lib.Dec.{eqb}
+use lib.ListN.{length, getD, set, replicate, List·getD-eq-default}
 use borrow.Author.Count.{below-more}
 use borrow.Author.Tests.{eqb-true, eq-eqb, ne-eqb, le-leb, lt-leb}
-use Rattle.paging.specs.Sets.{_=?_, _≤?_, if_then_else_, bit, count, first}
+use Rattle.paging.specs.Sets.{_=?_, _≤?_, if_then_else_, bit, count, first, listed}
 use Rattle.paging.specs.Tests.{clash, isnt, and-in, and-right, le-or-lt}
-use Rattle.paging.specs.Words.{first-some, first-is}
+use Rattle.paging.specs.Count.{count-most as count-at-most}
+use Rattle.paging.specs.Words.{first-some, first-is, first-same}
 use Rattle.ranking.specs.Key.{key-of}
 use Rattle.slots.specs.declared.Found.the-variants.{At, Nowhere}
-use Rattle.slots.specs.Slots.{no-page, seat, found, near-of, keys-of, near-to, least-key}
-use Rattle.slots.specs.Laws.{near-most}
-use Rattle.paging.specs.Tables.{entry-any, table-more}
+use Rattle.slots.specs.Slots.{no-page, seat, found, near-of, keys-of, near-to, tally-of, least-key}
+use Rattle.slots.specs.Laws.{near-most, near-more}
+use Rattle.paging.specs.Tables.{entry-any, listed-entry, listed-set, table-more}
 
 -- ---- a search: nothing below i is what is looked for
 
@@ -50,6 +52,19 @@ full-here near k i j n l e h = and-in (i ≤? j) (near-to near k j =? j) (le-leb
 pub full-not : (near : List ℕ) (k i j n : ℕ) → n ≡ near-to near k j → (n ≡ j → ⊥) → full near k i j ≡ false
 full-not near k i j n e h =
     isnt (full near k i j) (λ t. h (e ∙ eqb-true (near-to near k j) j (and-right (i ≤? j) (near-to near k j =? j) t)))
+
+-- nothing below j is what is looked for: then the search may begin with j
+pub full-from : (near : List ℕ) (k i j : ℕ) → i ≤ j → Passed (full near k i) j → (n : ℕ) → Path (Option ℕ) (first n (full near k j)) (first n (full near k i))
+full-from near k i j l passed n = first-same n (full near k j) (full near k i) same
+  where
+    same : (q : ℕ) → full near k j q ≡ full near k i q
+    same q = ⊎-elim above before (le-or-lt j q)
+      where
+        above : j ≤ q → full near k j q ≡ full near k i q
+        above h = rw (le-leb j q h, le-leb i q (omega arith))
+
+        before : q < j → full near k j q ≡ full near k i q
+        before h = full-before near k j q h ∙ sym (passed q h)
 
 -- ---- reads
 
@@ -107,6 +122,40 @@ count-next near j s n r e er = rw (add-one s) (omega arith)
 pub count-most :
     (near : List ℕ) (j s n r : ℕ) → n ≡ near-to near s j → r ≡ bit (getD near s 0 ≤? j) → n + r ≤ s + 1
 count-most near j s n r e er = omega (arith, near-most near (s + 1) j, count-next near j s n r e er)
+
+-- ---- one slot more is one more of its layer
+
+pub tally-none : (near : List ℕ) → replicate 256 0 ≡ tally-of near 0
+unfolding tally-of listed count
+tally-none near = refl
+
+module _ (near sums : List ℕ) (s j : ℕ) (at : j ≡ getD near s 0) (small : j < 256) (e : sums ≡ tally-of near s) where
+  abbrev layer-count : ℕ → ℕ → ℕ
+  layer-count k i = count (λ s. eqb (getD near s 0) i) k
+
+  pub tally-was : getD sums j 0 ≡ layer-count s j
+  unfolding tally-of
+  tally-was = rw e (listed-entry 256 (layer-count s) 0 j small)
+
+  pub tally-most : getD sums j 0 ≤ s
+  tally-most = omega (arith, tally-was, count-at-most (λ s. eqb (getD near s 0) j) s)
+
+  pub tally-next : set sums j (getD sums j 0 + 1) ≡ tally-of near (s + 1)
+  unfolding tally-of count
+  tally-next = rw (tally-was, e, add-one s) (listed-set 256 (layer-count s) (layer-count (suc s)) j (layer-count s j + 1) small here other)
+    where
+      here : layer-count s j + 1 ≡ layer-count (suc s) j
+      here = let one : bit (eqb (getD near s 0) j) ≡ 1 = rw (eq-eqb (getD near s 0) j (sym at)) in omega arith
+
+      other : (i : ℕ) → i < 256 → (i ≡ j → ⊥) → layer-count s i ≡ layer-count (suc s) i
+      other i l ne =
+          let none : bit (eqb (getD near s 0) i) ≡ 0 = rw (ne-eqb (getD near s 0) i (λ u. ne (sym u ∙ sym at))) in
+          omega arith
+
+pub sum-next :
+    (near sums : List ℕ) (k j n r : ℕ) → j < 255 → n ≡ near-to near k j → sums ≡ tally-of near k →
+    r ≡ getD sums (j + 1) 0 → n + r ≡ near-to near k (j + 1)
+sum-next near sums k j n r l en es er = let one : j + 1 ≡ suc j = add-one j in rw (en, er, es, one) (near-more near k j (omega arith))
 
 pub least-next :
     (near keys : List ℕ) (j s m p r : ℕ) → m ≡ least-key near keys j s →

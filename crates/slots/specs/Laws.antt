@@ -9,14 +9,14 @@ use Prim.Native.Nat.{ℕ, zero, suc, _+_, _-_, _%_, min, _≤_, _<_}
 use native.Mathlib.Omega.{arith}
 use lib.Dec.{eqb, leb}
 use lib.ListN.{length, getD}
-use borrow.Author.Tests.{eqb-true, eq-eqb, leb-true, le-leb}
+use borrow.Author.Tests.{eqb-true, eq-eqb, ne-eqb, leb-true, le-leb, lt-leb}
 use Rattle.paging.specs.Sets.{Pages, _∈_, if_then_else_, bit, count}
-use Rattle.paging.specs.Tests.{truth, clash, isnt, bit-le, and-in, and-left, and-right, le-or-lt, same-or-not}
-use Rattle.paging.specs.Count.{count-none, count-same, count-minus}
+use Rattle.paging.specs.Tests.{truth, clash, isnt, and-in, and-left, and-right, le-or-lt, same-or-not}
+use Rattle.paging.specs.Count.{count-most, count-none, count-same, count-minus}
 use Rattle.paging.specs.Words.{any-in, any-true, first-none, first-some, first-found}
-use Rattle.paging.specs.Tables.{table-at, table-length}
+use Rattle.paging.specs.Tables.{listed-entry, table-at, table-length}
 use Rattle.ranking.specs.Key.{key-of}
-use Rattle.slots.specs.Slots.{no-page, seated, seat, near-of, keys-of, near-to, least-key}
+use Rattle.slots.specs.Slots.{no-page, seated, seat, near-of, keys-of, near-to, tally-of, least-key}
 
 -- ---- the tables by slots
 
@@ -42,9 +42,32 @@ module _ (priority h : List ℕ) (k : ℕ) where
 
 -- no more slots are near than there are
 pub near-most : (near : List ℕ) (k j : ℕ) → near-to near k j ≤ k
-unfolding near-to count
-near-most near zero j = omega arith
-near-most near (suc k) j = omega (arith, near-most near k j, bit-le (leb (getD near k 0) j))
+unfolding near-to
+near-most near k j = count-most (λ s. leb (getD near s 0) j) k
+
+-- a layer more is its slots more
+bit-more : (x j : ℕ) → bit (leb x j) + bit (eqb x (suc j)) ≡ bit (leb x (suc j))
+bit-more x j = ⊎-elim upto past (le-or-lt x j)
+  where
+    upto : x ≤ j → bit (leb x j) + bit (eqb x (suc j)) ≡ bit (leb x (suc j))
+    upto l = rw (le-leb x j l, le-leb x (suc j) (omega arith), ne-eqb x (suc j) (λ e. omega arith))
+
+    past : j < x → bit (leb x j) + bit (eqb x (suc j)) ≡ bit (leb x (suc j))
+    past l = rw (lt-leb x j l) (⊎-elim there beyond (same-or-not x (suc j)))
+      where
+        there : x ≡ suc j → 0 + bit (eqb x (suc j)) ≡ bit (leb x (suc j))
+        there e = rw (eq-eqb x (suc j) e, le-leb x (suc j) (omega arith))
+
+        beyond : (x ≡ suc j → ⊥) → 0 + bit (eqb x (suc j)) ≡ bit (leb x (suc j))
+        beyond ne = rw (ne-eqb x (suc j) ne, lt-leb x (suc j) (omega arith))
+
+pub near-more : (near : List ℕ) (k j : ℕ) → suc j < 256 → near-to near k j + getD (tally-of near k) (suc j) 0 ≡ near-to near k (suc j)
+unfolding near-to tally-of count
+near-more near k j l = rw (listed-entry 256 (λ j. count (λ s. eqb (getD near s 0) j) k) 0 (suc j) l) (sums k)
+  where
+    sums : (k : ℕ) → count (λ s. leb (getD near s 0) j) k + count (λ s. eqb (getD near s 0) (suc j)) k ≡ count (λ s. leb (getD near s 0) (suc j)) k
+    sums zero = refl
+    sums (suc k) = omega (arith, sums k, bit-more (getD near k 0) j)
 
 -- ---- a cached page is in a slot
 

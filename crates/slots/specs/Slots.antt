@@ -3,7 +3,7 @@ use mathlib.Core.List.{List}
 use mathlib.Core.Option.{Option, none, some}
 use Prim.Native.Nat.{ℕ, zero, suc, min}
 use lib.ListN.{getD}
-use Rattle.paging.specs.Sets.{_=?_, _≤?_, if_then_else_, Pages, count, any, first, table}
+use Rattle.paging.specs.Sets.{_=?_, _≤?_, if_then_else_, Pages, count, any, first, listed, table}
 use Rattle.ranking.specs.Key.{key-of}
 use Rattle.slots.specs.declared.Found.{Found}
 use Rattle.slots.specs.declared.Found.the-variants.{At, Nowhere}
@@ -34,6 +34,10 @@ keys-of priority h k = table 64 k 0 (λ s. key-of (getD priority (getD h s no-pa
 -- How many of the first k slots hold a page of a layer up to j.
 unfoldable pub near-to : List ℕ → ℕ → ℕ → ℕ
 near-to near k j = count (λ s. getD near s 0 ≤? j) k
+
+-- Entry j, of every layer that a byte can name: how many of the first k slots hold a page of layer j.
+unfoldable pub tally-of : List ℕ → ℕ → List ℕ
+tally-of near k = listed 256 (λ j. count (λ s. getD near s 0 =? j) k)
 
 -- The least key of the first n slots that hold a page of a layer up to j; the greatest number there is, if there is none.
 unfoldable pub least-key : List ℕ → List ℕ → ℕ → ℕ → ℕ

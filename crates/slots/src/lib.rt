@@ -4,13 +4,16 @@ ghost use mathlib.Core.Bool.{_&&_};
 ghost use Prim.Native.Nat.{ℕ, suc, _<_, _≤_, _-_, _%_, min};
 ghost use lib.ListN.{getD};
 ghost use Rattle.paging.specs.Sets.{first, bit, if_then_else_, _=?_, _≤?_};
-ghost use Rattle.slots.specs.Slots.{no-page, seat, found, near-of, keys-of, near-to, least-key};
+ghost use Rattle.slots.specs.Slots.{no-page, seat, found, near-of, keys-of, near-to, tally-of, least-key};
 
 // A number that a search found, or that there is none.
 pub enum Found {
     At(usize),
     Nowhere,
 }
+
+// How many layers `reach` counts afresh.
+const AFRESH: u8 = 4;
 
 // The slot of a page.
 pub fn find(held: &[u16; 64], slots: usize, page: u16) -> Found
@@ -79,15 +82,55 @@ pub fn count_to(near: &[u8; 64], slots: usize, j: u8) -> usize
     n
 }
 
-// The smallest j from `from` on, and at most `slots`, such that j slots hold a page of a layer up to j.
+// How many of the first slots hold a page of each layer.
+fn tally(near: &[u8; 64], slots: usize) -> [u8; 256]
+    requires { ⌜ slots ≤ 64 ⌝ }
+    ensures { λ r. ⌜ r ≡ tally-of (now (near .entry)) slots ⌝ }
+{
+    let mut sums = [0u8; 256];
+    let mut s = 0;
+    while s < slots {
+        let j = layers::wide(near[s]);
+        sums[j] += 1;
+        s += 1;
+    }
+    sums
+}
+
+// As `reach`, by the sums of the layers: each j costs one addition.
+fn reach_on(near: &[u8; 64], slots: u8, from: u8) -> Found
+    requires { ⌜ slots ≤ 64 ⌝ }
+    ensures { λ r. ⌜ r ≡ found (first (suc slots) (λ j. from ≤? j && near-to (now (near .entry)) slots j =? j)) ⌝ }
+{
+    let sums = tally(near, slots as usize);
+    let mut n = count_to(near, slots as usize, from);
+    let mut j = from;
+    let full = loop {
+        if slots < j {
+            return Found::Nowhere;
+        }
+        if n == j as usize {
+            break j;
+        }
+        j += 1;
+        n += layers::wide(sums[j as usize]);
+    };
+    Found::At(full as usize)
+}
+
+// The smallest j from `from` on, and at most `slots`, such that j slots hold a page of a layer up to j. A few layers are
+// counted afresh, which is faster than their sums; where the search goes on, it goes on by the sums, so that it is O(k).
 pub fn reach(near: &[u8; 64], slots: u8, from: u8) -> Found
     requires { ⌜ slots ≤ 64 ⌝ }
     ensures { λ r. ⌜ r ≡ found (first (suc slots) (λ j. from ≤? j && near-to (now (near .entry)) slots j =? j)) ⌝ }
 {
     let mut j = from;
     let full = loop {
-        if slots < j {
+        if j > slots {
             return Found::Nowhere;
+        }
+        if AFRESH <= j - from {
+            return reach_on(near, slots, j);
         }
         if count_to(near, slots as usize, j) == j as usize {
             break j;

@@ -16,11 +16,11 @@ enum-told : tie.Need-enum-told
 enum-told c = search needs
 
 request-of-sound-requires : tie.Need-request-of-sound-requires
-request-of-sound-requires c κs = read-sound _ _ (c .before .before .before .restore .ensures) (c .before .enum-told .given .1)
+request-of-sound-requires c κs = read-sound _ _ (c .before .before .before .restore .ensures .0) (c .before .enum-told .given .1)
 
 settle-requires : tie.Need-settle-requires
 settle-requires c κs =
-    read-fits _ _ _ (c .before .before .before .before .restore .ensures) (c .before .before .enum-told .given .1) _ (c .request-of-sound .ensures)
+    read-fits _ _ _ (c .before .before .before .before .restore .ensures .0) (c .before .before .enum-told .given .1) _ (c .request-of-sound .ensures)
 
 enum-known-reading : tie.Need-enum-known-reading
 enum-known-reading c = search needs
@@ -34,8 +34,8 @@ same-length c = search needs
 
 returns : tie.Need-returns
 returns c = (
-  read-answer _ _ _ (c .before .before .before .before .before .before .before .restore .ensures) (c .before .before .before .before .before .enum-told .given .1) _ (c .before .before .before .request-of-sound .ensures) _ (c .before .before .settle .ensures .0),
-  read-image _ _ _ (c .before .before .before .before .before .before .before .restore .ensures) (c .before .before .before .before .before .enum-told .given .1) _ (c .before .before .before .request-of-sound .ensures) _ (c .before .before .settle .ensures .1),
+  read-answer _ _ _ (c .before .before .before .before .before .before .before .restore .ensures .0) (c .before .before .before .before .before .enum-told .given .1) _ (c .before .before .before .request-of-sound .ensures) _ (c .before .before .settle .ensures .0),
+  read-image _ _ _ (c .before .before .before .before .before .before .before .restore .ensures .0) (c .before .before .before .before .before .enum-told .given .1) _ (c .before .before .before .request-of-sound .ensures) _ (c .before .before .settle .ensures .1),
 )
 
 same-length-2 : tie.Need-same-length-2
@@ -43,8 +43,8 @@ same-length-2 c = search needs
 
 returns-2 : tie.Need-returns-2
 returns-2 c = (
-  unread-answer _ _ _ (c .before .before .before .before .restore .ensures) _ (c .before .before .reading .given .1) _ (c .pack .ensures),
-  unread-image _ _ _ (c .before .before .before .before .restore .ensures) _ (c .before .before .reading .given .1),
+  unread-answer _ _ _ (c .before .before .before .before .restore .ensures .0) _ (c .before .before .reading .given .1) _ (c .pack .ensures),
+  unread-image _ _ _ (c .before .before .before .before .restore .ensures .0) _ (c .before .before .reading .given .1),
 )
 
 pub timonedra-serve-spec : {M : Type 1} → statement M

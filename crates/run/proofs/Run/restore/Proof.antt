@@ -4,7 +4,7 @@ use mathlib.Core.Path.{_≡_, sym, _∙_}
 use native.Mathlib.Omega.{arith}
 use borrow.Author.Needs.{needs}
 use borrow.Author.Tests.{not-true, not-false}
-use Rattle.run.specs.Storing.{restored-refused, restored-unequal, restored-unsound, restored-accepted, image-fits, run-pages, run-slots, agree-in, sound-in}
+use Rattle.run.specs.Storing.{with-number, restored-refused, restored-unequal, restored-unsound, restored-accepted, image-fits, run-pages, run-slots, agree-in, sound-in}
 use Rattle.run.proofs.Run.restore.Statement.{statement}
 use Rattle.run.proofs.Run.restore.Tie as tie
 
@@ -15,7 +15,7 @@ blank-requires : tie.Need-blank-requires
 blank-requires c κs = search needs
 
 returns : tie.Need-returns
-returns c = restored-refused _ _ (c .before .before .refusal .ensures) _ (search needs) (c .blank .ensures)
+returns c = with-number _ _ (restored-refused _ _ (c .before .before .refusal .ensures) _ (search needs) (c .blank .ensures))
 
 in-image-requires : tie.Need-in-image-requires
 in-image-requires c κs =
@@ -34,9 +34,10 @@ blank-requires-2 c κs = search needs
 
 returns-2 : tie.Need-returns-2
 returns-2 c =
-    restored-unequal _ _ (c .before .before .before .before .before .refusal .ensures) (search needs) _
+    with-number _ _
+    (restored-unequal _ _ (c .before .before .before .before .before .refusal .ensures) (search needs) _
     (sym (agree-in _ _ (c .before .before .before .in-image .ensures)) ∙ (sym (c .before .before .agree .ensures) ∙ not-true _ (c .before .if2 .taken)))
-    (c .blank2 .ensures)
+    (c .blank2 .ensures))
 
 is-sound-requires : tie.Need-is-sound-requires
 is-sound-requires c κs = search needs
@@ -46,19 +47,21 @@ blank-requires-3 c κs = search needs
 
 returns-3 : tie.Need-returns-3
 returns-3 c =
-    restored-unsound _ _ (c .before .before .before .before .before .before .before .refusal .ensures) (search needs)
+    with-number _ _
+    (restored-unsound _ _ (c .before .before .before .before .before .before .before .refusal .ensures) (search needs)
     (sym (agree-in _ _ (c .before .before .before .before .before .in-image .ensures)) ∙ (sym (c .before .before .before .before .agree .ensures) ∙ not-false _ (c .before .before .before .if2 .left)))
     _
     (sym (sound-in _ _ (c .before .before .before .before .before .in-image .ensures)) ∙ (sym (c .before .before .is-sound .ensures) ∙ not-true _ (c .before .if3 .taken)))
-    (c .blank3 .ensures)
+    (c .blank3 .ensures))
 
 returns-4 : tie.Need-returns-4
 returns-4 c =
-    restored-accepted _ _ (c .before .before .before .before .before .before .refusal .ensures) (search needs)
+    with-number _ _
+    (restored-accepted _ _ (c .before .before .before .before .before .before .refusal .ensures) (search needs)
     (sym (agree-in _ _ (c .before .before .before .before .in-image .ensures)) ∙ (sym (c .before .before .before .agree .ensures) ∙ not-false _ (c .before .before .if2 .left)))
     _
     (c .before .before .before .before .in-image .ensures)
-    (sym (c .before .is-sound .ensures) ∙ not-false _ (c .if3 .left))
+    (sym (c .before .is-sound .ensures) ∙ not-false _ (c .if3 .left)))
 
 pub restore-spec : {M : Type 1} → statement M
 restore-spec =

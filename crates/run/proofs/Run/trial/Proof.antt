@@ -10,7 +10,7 @@ request-requires c κs = search needs
 
 returns : tie.Need-returns
 unfolding tried
-returns c = rw (c .request .ensures)
+returns c = (rw (c .request .ensures .0), c .request .ensures .1)
 
 pub trial-spec : {M : Type 1} → statement M
 trial-spec = tie.close (tie.spec request-requires returns)
