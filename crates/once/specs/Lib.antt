@@ -1,0 +1,2 @@
+-- No second answer. Assumes nothing.
+pub mod Once
