@@ -19,15 +19,11 @@ use Rattle.run.specs.Request.{requested}
 use Rattle.run.specs.Theorems.{request-is-sound}
 use Rattle.trace.specs.declared.Traced.{Traced}
 use Rattle.trace.specs.Layout.{request-word, request-offset, requests-in, requests-of, trace-refusal, traced}
-use Rattle.trace.specs.Reading.{no-trace, request-there}
-use Rattle.trace.specs.Theorems.{read-header, accepted-read, refused-read, read-sound}
+use Rattle.trace.specs.Reading.{no-trace, asked, asked-next, asked-last}
+use Rattle.trace.specs.Theorems.{read-header, accepted-read, refused-read, read-sound, asked-all}
 use Rattle.text.specs.Text.{event-line, first-line, last-line, refused-line}
 use Rattle.text.specs.Laws.{event-line-short, first-line-short, last-line-short, refused-line-short}
 use Rattle.player.specs.Answer.{lines, answer-bytes, room, answer-length, answered}
-
--- The requests that begin at an offset of a file, as they are read one at a time.
-unfoldable pub asked : List ℕ → ℕ → ℕ → List ℕ
-asked b offset n = listed n (request-word b offset)
 
 module _ (b : List ℕ) (offset n : ℕ) where
   -- what is still to be written before request i
@@ -41,20 +37,12 @@ module _ (b : List ℕ) (offset n : ℕ) where
       (r : Run) (i : ℕ) →
       i < n →
       rest r i ≡ line-of r (request-word b offset i) ++ rest (requested r (request-word b offset i) .run) (suc i)
-  unfolding rest asked lines
-  rest-next r i l =
-      rw (
-        drop-cons (listed n (request-word b offset)) i 0 (omega (arith, listed-length n (request-word b offset))),
-        listed-entry n (request-word b offset) 0 i l,
-      )
+  unfolding rest lines
+  rest-next r i l = rw (asked-next b offset n i l)
 
   rest-last : (r : Run) → rest r n ≡ last-line (r .served) (r .hits) (r .misses) (r .best)
-  unfolding rest asked lines
-  rest-last r =
-      let past : drop n (listed n (request-word b offset)) ≡ [] =
-      ap (λ (m : ℕ). drop m (listed n (request-word b offset))) (sym (listed-length n (request-word b offset)))
-      ∙ drop-length (listed n (request-word b offset)) in
-      rw past
+  unfolding rest lines
+  rest-last r = rw (asked-last b offset n)
 
   -- Before request i: the lines so far are written, and what is left, written behind them, makes the whole.
   pub record Playing (start : Run) (before : List ℕ) (at : ℕ) (out : List ℕ) (r : Run) (next i : ℕ) : Type 0 where
@@ -121,16 +109,6 @@ module _ (b : List ℕ) (offset n : ℕ) where
           (g ∙ (rw last at (now-is .ends)), h ∙ (rw last at (now-is .text)))
 
 -- ---- the answer of a file
-
--- read one at a time, they are the file's requests
-pub asked-all : (b : List ℕ) → trace-refusal b ≡ 0 → asked b (request-offset b) (requests-in b) ≡ requests-of b
-unfolding asked requests-of
-asked-all b ok =
-    listed-same
-    (requests-in b)
-    (request-word b (request-offset b))
-    (λ i. word-at 2 b (request-offset b + 2 * i))
-    (λ i l. sym (request-there b (request-offset b) i (word-at 2 b (request-offset b + 2 * i)) (omega (arith, read-header b ok .total)) refl))
 
 module _ (b out : List ℕ) where
   pub no-room : length out < room → (0 ≡ answer-length b out) × (out ≡ answered b out)

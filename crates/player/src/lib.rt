@@ -5,7 +5,7 @@ ghost use lib.ListN.{length};
 ghost use Rattle.words.specs.Words.{put};
 ghost use Rattle.run.specs.Sound.{Sound};
 ghost use Rattle.player.specs.Answer.{lines, answer-length, answered};
-ghost use Rattle.player.specs.Laws.{asked};
+ghost use Rattle.trace.specs.Reading.{asked};
 use run::Run;
 
 // A buffer of this size has room for every answer.

@@ -25,3 +25,8 @@ first-run b = started (b .pages) (b .slots) (b .list) (b .priorities) .run
 pub data Comes-from (b : Begun) : List ℕ → Run → Type 0 where
   begins : Comes-from b [] (first-run b)
   serves : {ps : List ℕ} {r : Run} → Comes-from b ps r → (p : ℕ) → p < r .pages → r .served < most-served → Comes-from b (ps ++ (p ∷ [])) (requested r p .run)
+
+-- The run after some requests, served or refused, in this order.
+unfoldable pub run-after : Run → List ℕ → Run
+run-after r [] = r
+run-after r (p ∷ ps) = run-after (requested r p .run) ps

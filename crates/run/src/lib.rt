@@ -290,7 +290,7 @@ impl Run {
         requires { ⌜ Sound self ⌝ }
         ensures { λ r. ⌜ r ≡ requested self page ⌝ }
     {
-        if self.pages <= page {
+        if page >= self.pages {
             return self.refused(8);
         }
         if Run::MAX_SERVED <= self.served {

@@ -1,17 +1,17 @@
 -- The reader as the code takes it: the header's refusals first, then those of a start with the lists that are read. Assumes nothing.
 use mathlib.Core.Bool.{Bool, true, false}
-use mathlib.Core.List.{List}
+use mathlib.Core.List.{List, [], _∷_}
 use mathlib.Core.Logic.{_⊎_, inl, inr}
 use mathlib.Core.Path.{_≡_, refl, sym, ap, _∙_}
-use Prim.Native.Nat.{ℕ, _+_, _*_, _≤_, _<_}
+use Prim.Native.Nat.{ℕ, suc, _+_, _*_, _≤_, _<_}
 use native.Mathlib.Omega.{arith}
 use lib.Dec.{eqb, leb}
-use lib.ListN.{length, take}
-use lib.Seq.{take-at}
+use lib.ListN.{length, take, drop}
+use lib.Seq.{take-at, drop-cons, drop-length}
 use borrow.Author.Tests.{eqb-true, eqb-false, eq-eqb, ne-eqb, leb-true, le-leb, lt-leb}
 use Rattle.paging.specs.Sets.{_=?_, _≤?_, unless_give_else_, listed, table}
 use Rattle.paging.specs.Tests.{truth}
-use Rattle.paging.specs.Tables.{listed-length}
+use Rattle.paging.specs.Tables.{listed-length, listed-entry}
 use Rattle.words.specs.Words.{word-at}
 use Rattle.begin.specs.Limits.{pages-fit, slots-fit, limits-refusal}
 use Rattle.begin.specs.Begin.{below, different}
@@ -292,3 +292,20 @@ pub request-there :
     (b : List ℕ) (offset i v : ℕ) → offset + 2 * i + 2 ≤ length b → v ≡ word-at 2 b (offset + 2 * i) → v ≡ request-word b offset i
 unfolding request-word
 request-there b offset i v h e = e ∙ rw (le-leb (offset + 2 * i + 2) (length b) h)
+
+-- The requests that begin at an offset of a file, as they are read one at a time.
+unfoldable pub asked : List ℕ → ℕ → ℕ → List ℕ
+asked b offset n = listed n (request-word b offset)
+
+module _ (b : List ℕ) (offset n : ℕ) where
+  pub asked-next : (i : ℕ) → i < n → drop i (asked b offset n) ≡ request-word b offset i ∷ drop (suc i) (asked b offset n)
+  unfolding asked
+  asked-next i l =
+      rw (listed-entry n (request-word b offset) 0 i l) at
+      (drop-cons (listed n (request-word b offset)) i 0 (omega (arith, listed-length n (request-word b offset))))
+
+  pub asked-last : drop n (asked b offset n) ≡ []
+  unfolding asked
+  asked-last =
+      ap (λ (m : ℕ). drop m (listed n (request-word b offset))) (sym (listed-length n (request-word b offset)))
+      ∙ drop-length (listed n (request-word b offset))

@@ -12,7 +12,7 @@ use lib.Seq.{take-all, drop-drop}
 use borrow.Author.Tests.{eqb-true, eqb-false, eq-eqb, leb-true}
 use Rattle.paging.specs.Sets.{listed}
 use Rattle.paging.specs.Tests.{truth, same-or-not, and-left, and-right}
-use Rattle.paging.specs.Tables.{listed-length, listed-entry}
+use Rattle.paging.specs.Tables.{listed-length, listed-entry, listed-same}
 use Rattle.words.specs.Words.{bytes, words, word-at}
 use Rattle.words.specs.Laws.{Bytes, words-length, word-at-words, listed-words, words-word-at, number-bytes-4, take-put, drop-put}
 use Rattle.ranking.specs.Defaults.{default-priority, default-priorities}
@@ -25,7 +25,7 @@ use Rattle.trace.specs.Layout.{most-requests, trace-header, trace-length
 use Rattle.trace.specs.Layout.{list-in, priorities-in, requests-of, offsets-right, trace-refusal, traced, request-word}
 use Rattle.trace.specs.Layout.{write-refusal, written, written-bytes}
 use Rattle.trace.specs.Reading.{header-refusal, header-none, header-refuses, header-holds, Header, right-two, start-of, start-refuses}
-use Rattle.trace.specs.Reading.{no-trace, traced-refused, request-there}
+use Rattle.trace.specs.Reading.{no-trace, traced-refused, request-there, asked}
 use Rattle.trace.specs.Writing.{header-length, trace-bytes-length, answer-refused, write-kept}
 
 -- ---- written and read back
@@ -356,3 +356,13 @@ module _ (N k : ℕ) (list priorities requests out : List ℕ) (ok : write-refus
       Says (take (written N k list priorities requests out .length) (written-bytes N k list priorities requests out)) N k list priorities requests
   written-read all asked =
       rw (told-length, written-there) (round-trip N k list priorities requests (passed .0) all asked (passed .1))
+
+-- Read one at a time, they are the file's requests
+pub asked-all : (b : List ℕ) → trace-refusal b ≡ 0 → asked b (request-offset b) (requests-in b) ≡ requests-of b
+unfolding asked requests-of
+asked-all b ok =
+    listed-same
+    (requests-in b)
+    (request-word b (request-offset b))
+    (λ i. word-at 2 b (request-offset b + 2 * i))
+    (λ i l. sym (request-there b (request-offset b) i (word-at 2 b (request-offset b + 2 * i)) (omega (arith, read-header b ok .total)) refl))

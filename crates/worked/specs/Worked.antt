@@ -23,6 +23,7 @@ use Rattle.words.specs.Words.{bytes, number, words, word-at, put}
 use Rattle.begin.specs.Limits.{limits-refusal}
 use Rattle.image.specs.Layout.{mark-byte, image-header, image-length, image-bytes, offsets-right, image-refusal, image-layers, image-slots}
 use Rattle.image.specs.Layout.{image-priorities, marks-agree}
+use Rattle.run.specs.History.{run-after}
 use Rattle.run.specs.Stored.{image-run, restored, image-of}
 use Rattle.serve.specs.Event.{values}
 use Rattle.board.specs.Board.{packed, image-after, answer-of, image-of-reading, board-answer, board-image}
@@ -76,16 +77,12 @@ later n r =
       held = r .held;
     }
 
--- The run after some requests, and the line of each.
+-- The line of each of some requests.
 unfoldable pub lines-of : Run → List ℕ → List Line
 lines-of r [] = []
 lines-of r (p ∷ ps) =
     let s = requested r p in
     line p (s .event) (s .best) ∷ lines-of (s .run) ps
-
-unfoldable pub run-after : Run → List ℕ → Run
-run-after r [] = r
-run-after r (p ∷ ps) = run-after (requested r p .run) ps
 
 unfoldable pub answers : List ℕ → List ℕ → List ℕ
 answers b [] = []

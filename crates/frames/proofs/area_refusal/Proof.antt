@@ -24,15 +24,15 @@ mul-frames : tie.Need-mul-frames
 mul-frames c = omega (arith, sound-iff _ .0 (passed (c .before)) .slots)
 
 returns-2 : tie.Need-returns-2
-returns-2 c = area-page _ _ _ (passed (c .before .before)) (c .if2 .taken)
+returns-2 c = area-page _ _ _ (passed (c .before .before)) (search needs)
 
 returns-3 : tie.Need-returns-3
 returns-3 c =
-    area-size _ _ _ (passed (c .before .before .before)) (c .before .if2 .left) (c .if3 .taken)
+    area-size _ _ _ (passed (c .before .before .before)) (search needs) (c .if3 .taken)
 
 returns-4 : tie.Need-returns-4
 returns-4 c =
-    area-right _ _ _ (passed (c .before .before .before)) (c .before .if2 .left) (c .if3 .left)
+    area-right _ _ _ (passed (c .before .before .before)) (search needs) (c .if3 .left)
 
 pub area-refusal-spec : {M : Type 1} → statement M
 area-refusal-spec =

@@ -19,7 +19,7 @@ passed : (c : tie.Else1) → let a = c .before .before .before .before .args in 
 passed c = area-passed _ _ _ _ (c .before .area-refusal .ensures) (search needs)
 
 returns-2 : tie.Need-returns-2
-returns-2 c = fill-bytes _ _ _ _ (passed (c .before)) (c .if2 .taken)
+returns-2 c = fill-bytes _ _ _ _ (passed (c .before)) (search needs)
 
 find-slot-requires : tie.Need-find-slot-requires
 find-slot-requires c κs = (passed (c .before) .run, passed (c .before) .page)

@@ -12,7 +12,7 @@ use Rattle.image.proofs.refusal.Statement.{statement}
 use Rattle.image.proofs.refusal.Tie as tie
 
 returns : tie.Need-returns
-returns c = refusal-short _ (c .if1 .taken)
+returns c = refusal-short _ (search needs)
 
 number-at-requires : tie.Need-number-at-requires
 number-at-requires c κs = search needs
@@ -67,7 +67,7 @@ returns-4 c =
     let limits = limits-are (c .before .before .before .before) in
     refusal-total _ (search needs) (sym limits ∙ c .before .before .before .if2 .left)
     (sym (c .before .before .offsets-right .ensures) ∙ not-false _ (c .before .if3 .left))
-    (λ e. c .if4 .taken (omega arith))
+    (λ e. absurd (omega arith))
 
 returns-5 : tie.Need-returns-5
 unfolding image-length

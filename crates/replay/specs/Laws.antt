@@ -1,0 +1,151 @@
+-- A turn is a request, and a loop of turns is the requests one after the other. Assumes nothing.
+use mathlib.Core.List.{List}
+use mathlib.Core.Logic.{⊎-elim}
+use mathlib.Core.Path.{_≡_, refl, sym, ap, subst, _∙_}
+use Prim.Native.Nat.{ℕ, suc, _+_, _≤_, _<_}
+use native.Mathlib.Omega.{arith}
+use lib.Dec.{eqb}
+use lib.ListN.{length, getD, set, drop, length-set}
+use Rattle.paging.specs.Sets.{bit}
+use Rattle.paging.specs.Layers.{next}
+use Rattle.paging.specs.Tests.{le-or-lt}
+use Rattle.paging.specs.Tables.{table-length}
+use Rattle.slots.specs.Slots.{near-of, keys-of}
+use Rattle.serve.specs.declared.Event.{Event}
+use Rattle.serve.specs.declared.Event.the-variants.{Hit, Miss, Refused}
+use Rattle.serve.specs.Step.{Ready, Stepped}
+use Rattle.run.specs.declared.Run.{Run}
+use Rattle.run.specs.declared.Served.{Served}
+use Rattle.run.specs.Numbers.{most-served}
+use Rattle.run.specs.Sound.{Sound}
+use Rattle.run.specs.SoundLaws.{sound-iff}
+use Rattle.run.specs.Cached.{slot-of}
+use Rattle.run.specs.Request.{served, requested, counted}
+use Rattle.run.specs.History.{run-after}
+use Rattle.run.specs.Requesting.{request-refusal, refuse-page, refuse-served, refuse-none, requested-refused, requested-served}
+use Rattle.run.specs.Serving.{answered, with-counts, run-ready, counts-fit, serve-answer}
+use Rattle.run.specs.Theorems.{never-refused, hit-or-miss, request-is-sound}
+use Rattle.trace.specs.Layout.{request-word}
+use Rattle.trace.specs.Reading.{asked, asked-next, asked-last}
+use Rattle.replay.specs.declared.Counts.{Counts}
+use Rattle.replay.specs.declared.Turn.{Turn}
+use Rattle.replay.specs.Replay.{state, outcome, turned}
+
+module _ (N k : ℕ) (c : Counts) (layer priority held : List ℕ) (w : Sound (state N k c layer priority held)) (p : ℕ) where
+  abbrev r : Run
+  r = state N k c layer priority held
+
+  -- a page that is not below N, and a run that has served all it may
+  pub refused-page : N ≤ p → outcome N k (record { event = Refused 8; best = 0; counts = c }) layer priority held ≡ requested r p
+  refused-page h = requested-refused r p 8 (refuse-page r p (sound-iff r .1 w) h) (λ z. omega arith)
+
+  pub refused-served :
+      p < N → most-served ≤ c .served → outcome N k (record { event = Refused 9; best = 0; counts = c }) layer priority held ≡ requested r p
+  refused-served l h = requested-refused r p 9 (refuse-served r p (sound-iff r .1 w) l h) (λ z. omega arith)
+
+  -- no count is at its end
+  pub turn-counts :
+      c .served < most-served → (new x : ℕ) → new ≡ bit (eqb x 0) →
+      (c .served + 1 ≤ 4294967295) × (c .hits + 1 ≤ 4294967295) × (c .misses + 1 ≤ 4294967295) × (c .best + 1 ≤ 4294967295) × (new ≤ 1)
+  turn-counts room new x e = counts-fit r new x w room e
+
+  module _ (l : p < N) (room : c .served < most-served) where
+    pub turn-ready : length layer ≡ 1024 → length held ≡ 64 → Ready N k p layer priority held
+    turn-ready long seats = run-ready r p w l long seats
+
+    module _ (new : ℕ) (e : Event) (layer′ held′ near′ keys′ : List ℕ) (new-is : new ≡ bit (eqb (getD layer p 0) 0)) (st : Stepped N k p layer priority held e layer′ held′ near′ keys′) where
+      is-served : answered r new e layer′ held′ ≡ requested r p
+      is-served =
+          serve-answer r p new e layer′ held′ near′ keys′ (answered r new e layer′ held′) w l new-is st refl
+          ∙ sym (requested-served r p (sym (refuse-none r p (sound-iff r .1 w) l room)))
+
+      by-event : (x : Event) → x ≡ e → answered r new x layer′ held′ ≡ requested r p → outcome N k (turned c new x) layer′ priority held′ ≡ requested r p
+      unfolding answered with-counts turned
+      by-event (Hit s) h g = let none : c .misses + 0 ≡ c .misses = omega arith in (rw none at g)
+      by-event (Miss s v) h g = let none : c .hits + 0 ≡ c .hits = omega arith in (rw none at g)
+      by-event (Refused n) h g =
+          absurd (never-refused r w p l room n (sym (ap (λ (y : Served). y .event) g)))
+
+      pub turn-is : (t : Turn) → t ≡ turned c new e → outcome N k t layer′ priority held′ ≡ requested r p
+      turn-is t h = rw h (by-event e refl is-served)
+
+-- ---- the tables keep their lengths
+
+pub record Long (r : Run) : Type 0 where
+  pub layers : length (r .layer) ≡ 1024
+  pub slots : length (r .held) ≡ 64
+
+counted-long : (r : Run) (p hit miss : ℕ) (held : List ℕ) → r .pages ≤ 1024 → length held ≡ 64 → Long (counted r p hit miss held)
+unfolding counted
+counted-long r p hit miss held l h =
+    record { layers = table-length 1024 (r .pages) 0 _ l; slots = h }
+
+pub request-long : (r : Run) (p : ℕ) → Sound r → Long r → Long (requested r p .run)
+request-long r p w long = ⊎-elim past below (le-or-lt (r .pages) p)
+  where
+    refused-long : (n : ℕ) → n ≡ request-refusal r p → (n ≡ 0 → ⊥) → Long (requested r p .run)
+    refused-long n e ne = subst Long (ap (λ (x : Served). x .run) (requested-refused r p n e ne)) long
+
+    past : r .pages ≤ p → Long (requested r p .run)
+    past h = refused-long 8 (refuse-page r p (sound-iff r .1 w) h) (λ z. omega arith)
+
+    below : p < r .pages → Long (requested r p .run)
+    below l = ⊎-elim full room (le-or-lt most-served (r .served))
+      where
+        full : most-served ≤ r .served → Long (requested r p .run)
+        full h = refused-long 9 (refuse-served r p (sound-iff r .1 w) l h) (λ z. omega arith)
+
+        room : r .served < most-served → Long (requested r p .run)
+        room h =
+            ⊎-elim
+            (λ i. subst Long (sym (i .run)) (counted-long r p 1 0 (r .held) (w .pages .1) (long .slots)))
+            (λ m.
+            let (v, i) = m in
+            subst Long (sym (i .run)) (counted-long r p 0 1 (set (r .held) (slot-of r v) p) (w .pages .1) (length-set (r .held) (slot-of r v) p ∙ long .slots)))
+            (hit-or-miss r w p l h)
+
+-- ---- a loop of turns
+
+-- Before request i of qs: the run in hand is sound, and what is left of the requests makes of it what all make of the start.
+pub record Replaying (start : Run) (qs : List ℕ) (n : ℕ) (r : Run) (near keys : List ℕ) (i : ℕ) : Type 0 where
+  pub sound-is : Sound r
+  pub long-is : Long r
+  pub nears : (near ≡ near-of (r .layer) (r .held) (r .slots)) × (keys ≡ keys-of (r .priority) (r .held) (r .slots))
+  pub reached : i ≤ n
+  pub left : run-after r (drop i qs) ≡ run-after start qs
+
+module _ (start : Run) (b : List ℕ) (offset n : ℕ) where
+  abbrev qs : List ℕ
+  qs = asked b offset n
+
+  pub replaying-first :
+      (near keys : List ℕ) → Sound start → Long start →
+      near ≡ near-of (start .layer) (start .held) (start .slots) → keys ≡ keys-of (start .priority) (start .held) (start .slots) →
+      Replaying start qs n start near keys 0
+  replaying-first near keys w long en ek =
+      record { sound-is = w; long-is = long; nears = (en, ek); reached = omega arith; left = refl }
+
+  module _ (r : Run) (near keys : List ℕ) (i : ℕ) (now-is : Replaying start qs n r near keys i) where
+    pub replaying-next :
+        (p : ℕ) (s : Served) (near′ keys′ : List ℕ) →
+        i < n → p ≡ request-word b offset i → s ≡ requested r p →
+        near′ ≡ near-of (s .run .layer) (s .run .held) (s .run .slots) →
+        keys′ ≡ keys-of (s .run .priority) (s .run .held) (s .run .slots) →
+        Replaying start qs n (s .run) near′ keys′ (i + 1)
+    unfolding run-after
+    replaying-next p s near′ keys′ l e f en ek =
+        let one : i + 1 ≡ suc i = omega arith in
+        rw (one, f, e)
+        (record {
+          sound-is = request-is-sound r (request-word b offset i) (now-is .sound-is);
+          long-is = request-long r (request-word b offset i) (now-is .sound-is) (now-is .long-is);
+          nears = (rw (f, e) at en, rw (f, e) at ek);
+          reached = l;
+          left = rw (asked-next b offset n i l) at (now-is .left);
+        })
+
+    pub replaying-last : n ≤ i → r ≡ run-after start qs
+    unfolding run-after
+    replaying-last l =
+        let end : i ≡ n = omega (arith, now-is .reached) in
+        rw (end, asked-last b offset n) at (now-is .left)

@@ -1,0 +1,154 @@
+// A replay: requests of a sound run, one after the other, over arrays that are lent and changed in place. No turn tests soundness
+// or copies the run. Assumes nothing.
+ghost use mathlib.Core.Path.{_≡_};
+ghost use Prim.Native.Nat.{_+_, _≤_};
+ghost use lib.ListN.{length};
+ghost use Rattle.paging.specs.Sets.{_=?_, bit};
+ghost use Rattle.slots.specs.Slots.{near-of, keys-of};
+ghost use Rattle.run.specs.Sound.{Sound};
+ghost use Rattle.run.specs.Request.{requested};
+ghost use Rattle.run.specs.History.{run-after};
+ghost use Rattle.trace.specs.Reading.{asked};
+ghost use Rattle.replay.specs.Replay.{counts-of, state, outcome, turned};
+use run::Run;
+use serve::Event;
+
+pub struct Counts {
+    pub served: u32,
+    pub hits: u32,
+    pub misses: u32,
+    pub best: u32,
+}
+
+// What a request comes to: the event, best with this request counted (0 beside a refusal), and the counts after it.
+pub struct Turn {
+    pub event: Event,
+    pub best: u32,
+    pub counts: Counts,
+}
+
+// The counts of a run.
+pub fn first_counts(run: Run) -> Counts
+    ensures { λ r. ⌜ r ≡ counts-of run ⌝ }
+{
+    Counts {
+        served: run.served,
+        hits: run.hits,
+        misses: run.misses,
+        best: run.best,
+    }
+}
+
+// 1 for layer 0, else 0.
+fn new_page(layer: u8) -> u32
+    ensures { λ r. ⌜ r ≡ bit (layer =? 0) ⌝ }
+{
+    if layer == 0 { 1 } else { 0 }
+}
+
+// The counts after an event; `new` is 1 for a page of L_0.
+fn counted(counts: Counts, event: Event, new: u32) -> Turn
+    requires { ⌜ (counts .served + 1 ≤ 4294967295) × (counts .hits + 1 ≤ 4294967295) × (counts .misses + 1 ≤ 4294967295) × (counts .best + 1 ≤ 4294967295) × (new ≤ 1) ⌝ }
+    ensures { λ r. ⌜ r ≡ turned counts new event ⌝ }
+{
+    let served = counts.served + 1;
+    let best = counts.best + new;
+    match event {
+        Event::Hit { slot } => Turn {
+            event: Event::Hit { slot },
+            best,
+            counts: Counts {
+                served,
+                hits: counts.hits + 1,
+                misses: counts.misses,
+                best,
+            },
+        },
+        Event::Miss { slot, victim } => Turn {
+            event: Event::Miss { slot, victim },
+            best,
+            counts: Counts {
+                served,
+                hits: counts.hits,
+                misses: counts.misses + 1,
+                best,
+            },
+        },
+        Event::Refused { number } => Turn {
+            event: Event::Refused { number },
+            best: 0,
+            counts,
+        },
+    }
+}
+
+// One request of a page, any 16-bit number.
+pub fn ask<'a>(
+    layer: &'a mut [u8; 1024],
+    priority: &'a [u16; 1024],
+    held: &'a mut [u16; 64],
+    near: &'a mut [u8; 64],
+    keys: &'a mut [u32; 64],
+    pages: usize,
+    slots: u8,
+    page: u16,
+    counts: Counts,
+) -> Turn
+    requires sound { ⌜ Sound (state pages slots counts (now layer) (now priority) (now held)) × (length (now layer) ≡ 1024) × (length (now held) ≡ 64) ⌝ }
+    requires nears { ⌜ (now near ≡ near-of (now layer) (now held) slots) × (now keys ≡ keys-of (now priority) (now held) slots) ⌝ }
+    ensures answer { λ r. ⌜ outcome pages slots r (now (layer .exit)) (now (priority .entry)) (now (held .exit)) ≡ requested (state pages slots counts (now (layer .entry)) (now (priority .entry)) (now (held .entry))) page ⌝ }
+    ensures nears { λ _. ⌜ (now (near .exit) ≡ near-of (now (layer .exit)) (now (held .exit)) slots) × (now (keys .exit) ≡ keys-of (now (priority .entry)) (now (held .exit)) slots) ⌝ }
+{
+    let p = page as usize;
+    if pages <= p {
+        return Turn {
+            event: Event::Refused { number: 8 },
+            best: 0,
+            counts,
+        };
+    }
+    if 1000000 <= counts.served {
+        return Turn {
+            event: Event::Refused { number: 9 },
+            best: 0,
+            counts,
+        };
+    }
+    let new = new_page(layer[p]);
+    let event = serve::step(layer, priority, held, near, keys, pages, slots, page);
+    counted(counts, event, new)
+}
+
+// The misses of a run after the requests that begin at an offset of a file.
+pub fn misses(file: &[u8], offset: usize, requests: usize, start: Run) -> u32
+    requires { ⌜ Sound start ⌝ }
+    ensures { λ r. ⌜ r ≡ run-after start (asked (now (file .entry)) offset requests) .misses ⌝ }
+{
+    let pages = start.pages;
+    let slots = start.slots;
+    let k = (slots % 256) as u8;
+    let priority = start.priority;
+    let mut layer = start.layer;
+    let mut held = start.held;
+    let mut near = slots::nears(&layer, &held, slots);
+    let mut keys = slots::keys(&priority, &held, slots);
+    let mut counts = first_counts(start);
+    let mut i = 0;
+    while i < requests {
+        let page = trace::request_at(file, offset, i);
+        let turn = ask(
+            &mut layer,
+            &priority,
+            &mut held,
+            &mut near,
+            &mut keys,
+            pages,
+            k,
+            page,
+            counts,
+        );
+        counts = turn.counts;
+        i += 1;
+    }
+    counts.misses
+}
