@@ -20,7 +20,7 @@ use Rattle.run.specs.Theorems.{request-is-sound}
 use Rattle.trace.specs.declared.Traced.{Traced}
 use Rattle.trace.specs.Layout.{request-word, request-offset, requests-in, requests-of, trace-refusal, traced}
 use Rattle.trace.specs.Reading.{no-trace, asked, asked-next, asked-last}
-use Rattle.trace.specs.Theorems.{read-header, accepted-read, refused-read, read-sound, asked-all}
+use Rattle.trace.specs.Theorems.{read-header, accepted-read, refused-read, read-sound, asked-all, told-refusal}
 use Rattle.text.specs.Text.{event-line, first-line, last-line, refused-line}
 use Rattle.text.specs.Laws.{event-line-short, first-line-short, last-line-short, refused-line-short}
 use Rattle.player.specs.Answer.{lines, answer-bytes, room, answer-length, answered}
@@ -125,14 +125,7 @@ module _ (b out : List ℕ) where
     told n after text e f g = let fits = le-leb room (length out) h in (f ∙ (rw (fits, e) (omega arith)), g ∙ rw (fits, e))
 
     refusal-is : t .refusal ≡ trace-refusal b
-    unfolding no-trace
-    refusal-is = ⊎-elim fine bad (same-or-not (trace-refusal b) 0)
-      where
-        fine : trace-refusal b ≡ 0 → t .refusal ≡ trace-refusal b
-        fine ok = rw (t-is, accepted-read b ok, ok)
-
-        bad : (trace-refusal b ≡ 0 → ⊥) → t .refusal ≡ trace-refusal b
-        bad ne = rw (t-is, refused-read b ne)
+    refusal-is = rw t-is (told-refusal b)
 
     refused-bytes : (trace-refusal b ≡ 0 → ⊥) → answer-bytes b ≡ refused-line (trace-refusal b)
     unfolding answer-bytes

@@ -366,3 +366,14 @@ asked-all b ok =
     (request-word b (request-offset b))
     (λ i. word-at 2 b (request-offset b + 2 * i))
     (λ i l. sym (request-there b (request-offset b) i (word-at 2 b (request-offset b + 2 * i)) (omega (arith, read-header b ok .total)) refl))
+
+-- The number that the reader answers is the file's refusal.
+pub told-refusal : (b : List ℕ) → traced b .refusal ≡ trace-refusal b
+unfolding no-trace
+told-refusal b = ⊎-elim fine bad (same-or-not (trace-refusal b) 0)
+  where
+    fine : trace-refusal b ≡ 0 → traced b .refusal ≡ trace-refusal b
+    fine ok = rw (accepted-read b ok, ok)
+
+    bad : (trace-refusal b ≡ 0 → ⊥) → traced b .refusal ≡ trace-refusal b
+    bad ne = rw (refused-read b ne)

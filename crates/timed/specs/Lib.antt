@@ -1,0 +1,2 @@
+-- What a benchmark times. Assumes nothing.
+pub mod Timed
