@@ -1,0 +1,2 @@
+-- The words of a line: what must be believed, and the laws of it. Assumes nothing.
+pub mod Fields
