@@ -4,8 +4,8 @@ use mathlib.Core.List.{List, [], _∷_}
 use Prim.Native.Nat.{ℕ, suc, _+_}
 use Rattle.paging.specs.Sets.{_=?_, _≤?_, if_then_else_, bit}
 use Rattle.text.specs.Laws.{value-of}
-use Rattle.fields.specs.declared.Number.{Number}
-use Rattle.fields.specs.declared.Number.the-variants.{Is, Refused}
+use Rattle.fields.specs.declared.Value.{Value}
+use Rattle.fields.specs.declared.Value.the-variants.{Is, Refused}
 
 -- How many characters stand before the first separator.
 unfoldable pub before : ℕ → List ℕ → ℕ
@@ -23,9 +23,9 @@ all-decimal [] = true
 all-decimal (c ∷ cs) = 48 ≤? c && c ≤? 57 && all-decimal cs
 
 -- The number that digits stand for after others that stand for a number, if it is at most `most`.
-unfoldable pub number-from : ℕ → ℕ → List ℕ → Number
+unfoldable pub number-from : ℕ → ℕ → List ℕ → Value
 number-from most n cs = if all-decimal cs && value-of n cs ≤? most then Is (value-of n cs) else Refused
 
-unfoldable pub number-of : ℕ → List ℕ → Number
+unfoldable pub number-of : ℕ → List ℕ → Value
 number-of most [] = Refused
 number-of most (c ∷ cs) = number-from most 0 (c ∷ cs)

@@ -9,7 +9,7 @@ ghost use Rattle.fields.specs.Fields.{before, separators, number-of};
 use hex::Count;
 
 // A number that a word stands for.
-pub enum Number {
+pub enum Value {
     Is(u64),
     Refused,
 }
@@ -30,7 +30,7 @@ pub fn end_of(line: &[u8], from: usize, separator: u8) -> usize
 }
 
 // How many words a line has: one more than it has spaces.
-pub fn count(line: &[u8]) -> usize
+pub fn words_in(line: &[u8]) -> usize
     ensures { λ r. ⌜ r ≡ suc (separators 32 (now (line .entry))) ⌝ }
 {
     let mut n = 1;
@@ -87,11 +87,11 @@ pub fn first_numbers(numbers: &[u16], count: usize) -> &[u16] {
 }
 
 // The number of a word of decimal digits, at most `most`. No digits, another character and a larger number are refused.
-pub fn number(word: &[u8], most: u32) -> Number
+pub fn number(word: &[u8], most: u32) -> Value
     ensures { λ r. ⌜ r ≡ number-of most (now (word .entry)) ⌝ }
 {
     if word.len() == 0 {
-        return Number::Refused;
+        return Value::Refused;
     }
     let limit = most as u64;
     let mut n: u64 = 0;
@@ -99,18 +99,18 @@ pub fn number(word: &[u8], most: u32) -> Number
     while i < word.len() {
         let c = word[i];
         if c < 48 {
-            return Number::Refused;
+            return Value::Refused;
         }
         if 57 < c {
-            return Number::Refused;
+            return Value::Refused;
         }
         n = n * 10 + (c - 48) as u64;
         if limit < n {
-            return Number::Refused;
+            return Value::Refused;
         }
         i += 1;
     }
-    Number::Is(n)
+    Value::Is(n)
 }
 
 // Whether a word is the one that stands for nothing at all.
@@ -128,7 +128,7 @@ pub fn list(word: &[u8], out: &mut [u16]) -> Count {
     while n < out.len() {
         let end = end_of(word, from, b',');
         let entry = number(&word[from..end], 65535);
-        let Number::Is(x) = entry else {
+        let Value::Is(x) = entry else {
             return Count::Refused;
         };
         out[n] = (x % 65536) as u16;
@@ -193,18 +193,20 @@ pub fn write_number(out: &mut [u8], at: usize, n: u64) -> usize
     text::write_number(out, at, n)
 }
 
+fn wide(x: u16) -> u64 {
+    x as u64
+}
+
 // Writes a list of numbers at an offset, and answers the offset behind it.
 pub fn write_list(out: &mut [u8], at: usize, list: &[u16]) -> usize {
     if list.len() == 0 {
         return write_word(out, at, b"-");
     }
-    let mut next = at;
-    let mut i = 0;
+    let mut next = write_number(out, at, wide(list[0]));
+    let mut i = 1;
     while i < list.len() {
-        if 0 < i {
-            next = write_word(out, next, b",");
-        }
-        next = write_number(out, next, list[i] as u64);
+        next = write_word(out, next, b",");
+        next = write_number(out, next, wide(list[i]));
         i += 1;
     }
     next
