@@ -27,6 +27,13 @@ pub struct Begun {
     pub given: usize,
 }
 
+// What a trace writer is handed besides a start: how many requests, and the size of its buffer.
+pub struct Wanted {
+    pub good: bool,
+    pub requests: usize,
+    pub size: usize,
+}
+
 // A number below 2^32, wide enough for every call.
 pub fn read_number(word: &[u8]) -> Value {
     fields::number(word, 4294967295)
@@ -149,5 +156,30 @@ fn read_priorities(
         listed,
         default: false,
         given,
+    }
+}
+
+// The requests and the buffer of a trace writer, behind its start.
+pub fn read_wanted(line: &[u8], requests: &mut [u16], buffer: &mut [u8]) -> Wanted {
+    let fifth = fields::list(fields::word(line, 5), requests);
+    let sixth = fields::bytes(fields::word(line, 6), buffer);
+    let Count::Of(count) = fifth else {
+        return Wanted {
+            good: false,
+            requests: 0,
+            size: 0,
+        };
+    };
+    match sixth {
+        Count::Of(size) => Wanted {
+            good: true,
+            requests: count,
+            size,
+        },
+        Count::Refused => Wanted {
+            good: false,
+            requests: 0,
+            size: 0,
+        },
     }
 }

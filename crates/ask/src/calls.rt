@@ -2,12 +2,14 @@
 use crate::answers;
 use crate::asked;
 use crate::asked::Begun;
+use crate::asked::Wanted;
 use fields::Value;
 use hex::Count;
 use run::Reading;
 use run::Run;
 use run::Started;
 use serve::Event;
+use trace::Traced;
 
 // The answer of a start.
 fn started(start: Started, bytes: &mut [u8], out: &mut [u8], at: usize) -> usize {
@@ -104,18 +106,24 @@ pub fn certain(line: &[u8], bytes: &mut [u8], out: &mut [u8], at: usize) -> usiz
     answers::then_number(out, next, answer.certain as u64)
 }
 
+// Puts a page that is in a set behind the pages of a list, and answers how many there are.
+fn put_page(list: &mut [u16], n: usize, page: u16, is_in: bool) -> usize {
+    if !is_in {
+        return n;
+    }
+    if list.len() <= n {
+        return n;
+    }
+    list[n] = page;
+    n + 1
+}
+
 // The pages of a set, in rising order, at the start of a buffer; answers how many.
 fn gather(pages: [bool; 1024], list: &mut [u16]) -> usize {
     let mut n = 0;
     let mut q: u16 = 0;
     while q < 1024 {
-        if pages[q as usize] {
-            if list.len() <= n {
-                return n;
-            }
-            list[n] = q;
-            n += 1;
-        }
+        n = put_page(list, n, q, pages[q as usize]);
         q += 1;
     }
     n
@@ -196,7 +204,7 @@ pub fn fill(
     filled(
         paged.run,
         paged.page,
-        &mut area[..size],
+        &mut area[0..size],
         fields::first(bytes, given),
         out,
         at,
@@ -226,13 +234,8 @@ pub fn look(
     answers::then_bytes(out, next, frames::look(run, paged.page, given))
 }
 
-// readtrace BYTES
-pub fn readtrace(line: &[u8], bytes: &mut [u8], out: &mut [u8], at: usize) -> usize {
-    let count = fields::bytes(fields::word(line, 1), bytes);
-    let Count::Of(size) = count else {
-        return answers::bad(out, at);
-    };
-    let traced = trace::read(fields::first(bytes, size));
+// The answer of the trace reader.
+fn trace_read(traced: Traced, bytes: &mut [u8], out: &mut [u8], at: usize) -> usize {
     let first = answers::refusal(out, at, traced.refusal);
     if traced.refusal != 0 {
         return first;
@@ -240,6 +243,16 @@ pub fn readtrace(line: &[u8], bytes: &mut [u8], out: &mut [u8], at: usize) -> us
     let second = answers::then_number(out, first, traced.requests as u64);
     let third = answers::then_number(out, second, traced.offset as u64);
     answers::then_record(out, third, traced.run, bytes)
+}
+
+// readtrace BYTES
+pub fn readtrace(line: &[u8], bytes: &mut [u8], out: &mut [u8], at: usize) -> usize {
+    let count = fields::bytes(fields::word(line, 1), bytes);
+    let Count::Of(size) = count else {
+        return answers::bad(out, at);
+    };
+    let traced = trace::read(fields::first(bytes, size));
+    trace_read(traced, bytes, out, at)
 }
 
 // The answer of a writer: how much it wrote, and the whole buffer.
@@ -253,11 +266,11 @@ fn written(length: usize, refusal: u8, buffer: &[u8], out: &mut [u8], at: usize)
 }
 
 // The answer of the trace writer, over the whole of a buffer.
-fn traced(
+fn trace_written<'a>(
     begun: Begun,
-    list: &[u16],
-    priorities: &[u16],
-    requests: &[u16],
+    list: &'a [u16],
+    priorities: &'a [u16],
+    requests: &'a [u16],
     buffer: &mut [u8],
     out: &mut [u8],
     at: usize,
@@ -268,6 +281,32 @@ fn traced(
     }
     let done = trace::write(begun.pages, begun.slots, list, priorities, requests, buffer);
     written(done.length, done.refusal, buffer, out, at)
+}
+
+// The same over what was read: the first entries of the lists, and the first bytes of the buffer.
+fn trace_wanted<'a>(
+    begun: Begun,
+    wanted: Wanted,
+    list: &'a [u16],
+    priorities: &'a [u16],
+    requests: &'a [u16],
+    buffer: &mut [u8],
+    out: &mut [u8],
+    at: usize,
+) -> usize {
+    let size = wanted.size;
+    if buffer.len() < size {
+        return answers::bad(out, at);
+    }
+    trace_written(
+        begun,
+        fields::first_numbers(list, begun.listed),
+        fields::first_numbers(priorities, begun.given),
+        fields::first_numbers(requests, wanted.requests),
+        &mut buffer[0..size],
+        out,
+        at,
+    )
 }
 
 // writetrace N K LIST PRIORITIES REQUESTS BUFFER
@@ -284,26 +323,11 @@ pub fn writetrace(
     if !begun.good {
         return answers::bad(out, at);
     }
-    let fifth = fields::list(fields::word(line, 5), requests);
-    let Count::Of(count) = fifth else {
-        return answers::bad(out, at);
-    };
-    let sixth = fields::bytes(fields::word(line, 6), buffer);
-    let Count::Of(size) = sixth else {
-        return answers::bad(out, at);
-    };
-    if buffer.len() < size {
+    let wanted = asked::read_wanted(line, requests, buffer);
+    if !wanted.good {
         return answers::bad(out, at);
     }
-    traced(
-        begun,
-        fields::first_numbers(list, begun.listed),
-        fields::first_numbers(priorities, begun.given),
-        fields::first_numbers(requests, count),
-        &mut buffer[..size],
-        out,
-        at,
-    )
+    trace_wanted(begun, wanted, list, priorities, requests, buffer, out, at)
 }
 
 // readimage BYTES
@@ -348,7 +372,7 @@ pub fn writeimage(
     if buffer.len() < size {
         return answers::bad(out, at);
     }
-    stored(described.run, &mut buffer[..size], out, at)
+    stored(described.run, &mut buffer[0..size], out, at)
 }
 
 // The answer of the board entry, over the whole of a buffer.
@@ -371,5 +395,5 @@ pub fn serve_board(line: &[u8], bytes: &mut [u8], out: &mut [u8], at: usize) -> 
     if bytes.len() < size {
         return answers::bad(out, at);
     }
-    boarded(&mut bytes[..size], (page % 4294967296) as u32, out, at)
+    boarded(&mut bytes[0..size], (page % 4294967296) as u32, out, at)
 }

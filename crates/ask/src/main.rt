@@ -5,6 +5,7 @@ mod asked;
 mod calls;
 
 ghost use mathlib.Core.Path.{_≡_};
+ghost use Prim.Native.Nat.{_<_};
 ghost use lib.ListN.{length};
 
 // A longer line is answered `bad line`.
@@ -13,10 +14,11 @@ const LONGEST: usize = 262144;
 // Room for the longest answer, which repeats a buffer of the line behind two numbers.
 const ROOM: usize = 263000;
 
-// How much is kept: bytes of the line that has begun, and bytes of answers.
+// How much is kept, bytes of the line that has begun and bytes of answers, and whether there may be more to read.
 struct Kept {
     held: usize,
     at: usize,
+    more: bool,
 }
 
 // The questions of two words.
@@ -207,18 +209,94 @@ fn take(
         let end = fields::end_of(piece, from, b'\n');
         held = hold(line, held, &piece[from..end]);
         if piece.len() <= end {
-            return Kept { held, at };
+            return Kept {
+                held,
+                at,
+                more: true,
+            };
         }
+        from = end + 1;
         at = answer_held(
             line, held, record, area, bytes, list, priorities, requests, out, at,
         );
         held = 0;
-        from = end + 1;
     }
-    Kept { held, at }
+    Kept {
+        held,
+        at,
+        more: true,
+    }
 }
 
-// Answers every line of the input. Nothing says that an input ends, so the pieces are counted down from a number that none has.
+// Reads a piece of the input and answers the lines that end in it. A read that fails ends the input.
+fn read_some(
+    piece: &mut [u8],
+    kept: Kept,
+    line: &mut [u8],
+    record: &mut [u8],
+    area: &mut [u8],
+    bytes: &mut [u8],
+    list: &mut [u16],
+    priorities: &mut [u16],
+    requests: &mut [u16],
+    out: &mut [u8],
+) -> Kept {
+    let got = libc::read(0, piece);
+    if got <= 0 {
+        return Kept {
+            held: kept.held,
+            at: kept.at,
+            more: false,
+        };
+    }
+    let n = io::count(got, piece);
+    take(
+        fields::first(piece, n),
+        kept,
+        line,
+        record,
+        area,
+        bytes,
+        list,
+        priorities,
+        requests,
+        out,
+    )
+}
+
+// Answers a last line that has no end, and writes out what answers are kept.
+fn finish(
+    kept: Kept,
+    line: &[u8],
+    record: &mut [u8],
+    area: &mut [u8],
+    bytes: &mut [u8],
+    list: &mut [u16],
+    priorities: &mut [u16],
+    requests: &mut [u16],
+    out: &mut [u8],
+) {
+    let held = kept.held;
+    let at = kept.at;
+    if held == 0 {
+        io::write_all(1, fields::first(out, at));
+        return;
+    }
+    let end = answer_held(
+        line, held, record, area, bytes, list, priorities, requests, out, at,
+    );
+    io::write_all(1, fields::first(out, end));
+}
+
+// How many turns are left after one.
+fn left(turns: u64, more: bool) -> u64
+    requires { ⌜ 0 < turns ⌝ }
+    ensures { λ r. ⌜ r < turns ⌝ }
+{
+    if more { turns - 1 } else { 0 }
+}
+
+// Answers every line that has an end. Nothing says that an input ends, so the pieces are counted down from a number that none has.
 fn answer_all(
     piece: &mut [u8],
     line: &mut [u8],
@@ -229,36 +307,20 @@ fn answer_all(
     priorities: &mut [u16],
     requests: &mut [u16],
     out: &mut [u8],
-) {
-    let mut kept = Kept { held: 0, at: 0 };
+) -> Kept {
+    let mut kept = Kept {
+        held: 0,
+        at: 0,
+        more: true,
+    };
     let mut turns = u64::MAX;
     while turns > 0 {
-        let got = libc::read(0, piece);
-        if got <= 0 {
-            break;
-        }
-        let n = io::count(got, piece);
-        kept = take(
-            fields::first(piece, n),
-            kept,
-            line,
-            record,
-            area,
-            bytes,
-            list,
-            priorities,
-            requests,
-            out,
+        kept = read_some(
+            piece, kept, line, record, area, bytes, list, priorities, requests, out,
         );
-        turns -= 1;
+        turns = left(turns, kept.more);
     }
-    let mut at = kept.at;
-    if 0 < kept.held {
-        at = answer_held(
-            line, kept.held, record, area, bytes, list, priorities, requests, out, at,
-        );
-    }
-    io::write_all(1, fields::first(out, at));
+    kept
 }
 
 // One byte more than the longest line.
@@ -299,9 +361,20 @@ fn main() {
     let mut priorities = number_buffer();
     let mut requests = number_buffer();
     let mut out = out_buffer();
-    answer_all(
+    let kept = answer_all(
         &mut piece,
         &mut line,
+        &mut record,
+        &mut area,
+        &mut bytes,
+        &mut list,
+        &mut priorities,
+        &mut requests,
+        &mut out,
+    );
+    finish(
+        kept,
+        &line,
         &mut record,
         &mut area,
         &mut bytes,

@@ -1,18 +1,20 @@
+-- `ask::hold` is safe and ends: what is held stays within the buffer. Assumes nothing.
 use Prim.Native.Nat.{ℕ, zero, suc, _+_, _*_, _-_, _≤_, _<_}
 use mathlib.Core.Path.{_≡_, refl, sym, ap, _∙_}
 use native.Mathlib.Omega.{arith}
 use lib.ListN.{length, getD, set}
 use borrow.Author.Needs.{needs}
+use lib.ListN.{length-set}
 use Rattle.ask.proofs.hold.Statement.{statement}
 use Rattle.ask.proofs.hold.Tie as tie
 use Rattle.ask.proofs.hold.Reads as reads
 use Rattle.ask.proofs.hold.Lts as lts
 
 abbrev Inv-loop : tie.InvT-loop
-Inv-loop line₀ held part n₀ i₀ line n i = ?
+Inv-loop line₀ held part n₀ i₀ line n i = length line ≡ length line₀
 
 abbrev μ-loop : tie.MeasureT-loop
-μ-loop line₀ held part n₀ i₀ line n i = ?
+μ-loop line₀ held part n₀ i₀ line n i = length part - i
 
 -- src/main.rt:179:5
 loop-holds : tie.Need-loop-holds Inv-loop μ-loop
@@ -48,7 +50,7 @@ loop-less c = search needs
 
 -- src/main.rt:179:5
 loop-again : tie.Need-loop-again Inv-loop μ-loop
-loop-again c = search needs
+loop-again c = simp length-set (search needs)
 
 -- src/main.rt:176:1
 same-length-2 : tie.Need-same-length-2 Inv-loop μ-loop

@@ -1,3 +1,4 @@
+-- `asked::run_in` meets what its calls require: an image that is not refused has room for its tables. Assumes nothing.
 use Prim.Native.Nat.{ℕ, zero, suc, _+_, _*_, _-_, _≤_, _<_}
 use mathlib.Core.Path.{_≡_, refl, sym, ap, _∙_}
 use native.Mathlib.Omega.{arith}
@@ -11,6 +12,7 @@ use Rattle.image.proofs.agree.Reads as agree-reads
 use Rattle.image.proofs.refusal.Reads as refusal-reads
 use Rattle.run.proofs.Run.blank.Reads as blank-reads
 use Rattle.run.proofs.Run.in_image.Reads as in-image-reads
+use Rattle.run.specs.Storing.{image-fits, run-pages, run-slots}
 
 -- src/asked.rt:37:8
 refusal-requires : tie.Need-refusal-requires
@@ -26,11 +28,17 @@ returns c = search needs
 
 -- src/asked.rt:40:9
 in-image-requires : tie.Need-in-image-requires
-in-image-requires c κs = search needs
+in-image-requires c κs =
+    let z : c .before .refusal .result ≡ 0 = search needs in
+    sym (c .before .refusal .ensures) ∙ z
 
 -- src/asked.rt:41:9
 agree-requires : tie.Need-agree-requires
-agree-requires c κs = search needs
+agree-requires c κs =
+    let z : c .before .before .refusal .result ≡ 0 = search needs in
+    let e = c .in-image .ensures in
+    let f = image-fits _ _ _ (sym (c .before .before .refusal .ensures) ∙ z) (run-pages _ _ e) (run-slots _ _ e) in
+    (f .0, f .1, omega arith)
 
 -- src/asked.rt:42:9
 blank-requires-2 : tie.Need-blank-requires-2

@@ -1,3 +1,4 @@
+-- `calls::gather` is safe and ends. Assumes nothing.
 use Prim.Native.Nat.{ℕ, zero, suc, _+_, _*_, _-_, _≤_, _<_}
 use mathlib.Core.Path.{_≡_, refl, sym, ap, _∙_}
 use native.Mathlib.Omega.{arith}
@@ -7,64 +8,49 @@ use Rattle.ask.proofs.calls.gather.Statement.{statement}
 use Rattle.ask.proofs.calls.gather.Tie as tie
 use Rattle.ask.proofs.calls.gather.Reads as reads
 use Rattle.ask.proofs.calls.gather.Lts as lts
+use Rattle.ask.proofs.calls.put_page.Reads as put-page-reads
 
 abbrev Inv-loop : tie.InvT-loop
-Inv-loop list₀ pages n₀ q₀ list n q = ?
+Inv-loop list₀ pages n₀ q₀ list n q = length list ≡ length list₀
 
 abbrev μ-loop : tie.MeasureT-loop
-μ-loop list₀ pages n₀ q₀ list n q = ?
+μ-loop list₀ pages n₀ q₀ list n q = 1024 - q
 
--- src/calls.rt:111:5
+-- src/calls.rt:124:5
 loop-holds : tie.Need-loop-holds Inv-loop μ-loop
 loop-holds c = search needs
 
--- src/calls.rt:112:18
-cast-if1 : tie.Need-cast-if1 Inv-loop μ-loop
-cast-if1 c = search needs
+-- src/calls.rt:125:40
+cast-put-page : tie.Need-cast-put-page Inv-loop μ-loop
+cast-put-page c = search needs
 
--- src/calls.rt:112:12
-array-read-if1 : tie.Need-array-read-if1 Inv-loop μ-loop
-array-read-if1 c = search needs
+-- src/calls.rt:125:34
+array-read-put-page : tie.Need-array-read-put-page Inv-loop μ-loop
+array-read-put-page c = search needs
 
--- src/calls.rt:114:17
-same-length : tie.Need-same-length Inv-loop μ-loop
-same-length c = search needs
+-- src/calls.rt:125:9
+put-page-requires : tie.Need-put-page-requires Inv-loop μ-loop
+put-page-requires c κs = search needs
 
--- src/calls.rt:114:17
-returns : tie.Need-returns Inv-loop μ-loop
-returns c = search needs
-
--- src/calls.rt:116:13
-mul-list : tie.Need-mul-list Inv-loop μ-loop
-mul-list c = search needs
-
--- src/calls.rt:116:13
-slice-write-list : tie.Need-slice-write-list Inv-loop μ-loop
-slice-write-list c = search needs
-
--- src/calls.rt:117:13
-add-n : tie.Need-add-n Inv-loop μ-loop
-add-n c = search needs
-
--- src/calls.rt:119:9
+-- src/calls.rt:126:9
 add-q : tie.Need-add-q Inv-loop μ-loop
 add-q c = search needs
 
--- src/calls.rt:111:5
+-- src/calls.rt:124:5
 loop-less : tie.Need-loop-less Inv-loop μ-loop
 loop-less c = search needs
 
--- src/calls.rt:111:5
+-- src/calls.rt:124:5
 loop-again : tie.Need-loop-again Inv-loop μ-loop
 loop-again c = search needs
 
--- src/calls.rt:108:1
-same-length-2 : tie.Need-same-length-2 Inv-loop μ-loop
-same-length-2 c = search needs
+-- src/calls.rt:121:1
+same-length : tie.Need-same-length Inv-loop μ-loop
+same-length c = search needs
 
--- src/calls.rt:108:1
-returns-2 : tie.Need-returns-2 Inv-loop μ-loop
-returns-2 c = search needs
+-- src/calls.rt:121:1
+returns : tie.Need-returns Inv-loop μ-loop
+returns c = search needs
 
 pub gather-spec : {M : Type 1} → statement M
 gather-spec =
@@ -73,15 +59,11 @@ gather-spec =
     Inv-loop
     μ-loop
     loop-holds
-    cast-if1
-    array-read-if1
-    same-length
-    returns
-    mul-list
-    slice-write-list
-    add-n
+    cast-put-page
+    array-read-put-page
+    put-page-requires
     add-q
     loop-less
     loop-again
-    same-length-2
-    returns-2)
+    same-length
+    returns)
