@@ -212,13 +212,7 @@ pub fn fill(
 }
 
 // look RECORD PAGE AREA
-pub fn look(
-    line: &[u8],
-    record: &mut [u8],
-    area: &mut [u8],
-    out: &mut [u8],
-    at: usize,
-) -> usize {
+pub fn look(line: &[u8], record: &mut [u8], area: &mut [u8], out: &mut [u8], at: usize) -> usize {
     let paged = asked::read_paged(line, record);
     if !paged.good {
         return answers::bad(out, at);

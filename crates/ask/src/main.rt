@@ -22,13 +22,7 @@ struct Kept {
 }
 
 // The questions of two words.
-fn of_two(
-    line: &[u8],
-    bytes: &mut [u8],
-    list: &mut [u16],
-    out: &mut [u8],
-    at: usize,
-) -> usize {
+fn of_two(line: &[u8], bytes: &mut [u8], list: &mut [u16], out: &mut [u8], at: usize) -> usize {
     let kind = fields::word(line, 0);
     if check::same(kind, b"sound") {
         return calls::sound(line, bytes, out, at);
@@ -126,7 +120,16 @@ fn answer(
         return of_three(line, record, bytes, out, at);
     }
     of_more(
-        line, words, record, area, bytes, list, priorities, requests, out, at,
+        line,
+        words,
+        record,
+        area,
+        bytes,
+        list,
+        priorities,
+        requests,
+        out,
+        at,
     )
 }
 
@@ -217,7 +220,16 @@ fn take(
         }
         from = end + 1;
         at = answer_held(
-            line, held, record, area, bytes, list, priorities, requests, out, at,
+            line,
+            held,
+            record,
+            area,
+            bytes,
+            list,
+            priorities,
+            requests,
+            out,
+            at,
         );
         held = 0;
     }
@@ -283,7 +295,16 @@ fn finish(
         return;
     }
     let end = answer_held(
-        line, held, record, area, bytes, list, priorities, requests, out, at,
+        line,
+        held,
+        record,
+        area,
+        bytes,
+        list,
+        priorities,
+        requests,
+        out,
+        at,
     );
     io::write_all(1, fields::first(out, end));
 }
@@ -316,7 +337,16 @@ fn answer_all(
     let mut turns = u64::MAX;
     while turns > 0 {
         kept = read_some(
-            piece, kept, line, record, area, bytes, list, priorities, requests, out,
+            piece,
+            kept,
+            line,
+            record,
+            area,
+            bytes,
+            list,
+            priorities,
+            requests,
+            out,
         );
         turns = left(turns, kept.more);
     }

@@ -2,7 +2,7 @@
 use mathlib.Core.Bool.{Bool, true, false, _&&_}
 use mathlib.Core.List.{List, [], _∷_}
 use mathlib.Core.Path.{_≡_, refl, sym, ap, _∙_}
-use Prim.Native.Nat.{ℕ, zero, suc, _+_, _-_, _*_, _≤_, _<_}
+use Prim.Native.Nat.{ℕ, suc, _+_, _-_, _*_, _≤_, _<_}
 use native.Mathlib.Numerals.{add-one}
 use native.Mathlib.Omega.{arith}
 use borrow.Author.Tests.{le-leb, lt-leb, eq-eqb, ne-eqb}
@@ -12,7 +12,6 @@ use Rattle.paging.specs.Sets.{_≤?_}
 use Rattle.words.specs.Words.{put}
 use Rattle.words.specs.Laws.{put-then}
 use Rattle.text.specs.Laws.{value-of}
-use Rattle.fields.specs.declared.Value.{Value}
 use Rattle.fields.specs.declared.Value.the-variants.{Is, Refused}
 use Rattle.fields.specs.Fields.{before, separators, all-decimal, number-from, number-of}
 
@@ -49,11 +48,6 @@ value-grows : (n : ℕ) (cs : List ℕ) → n ≤ value-of n cs
 unfolding value-of
 value-grows n [] = omega arith
 value-grows n (c ∷ cs) = omega (arith, value-grows (n * 10 + (c - 48)) cs)
-
-pub number-first : (most : ℕ) (w : List ℕ) → (length w ≡ 0 → ⊥) → number-of most w ≡ number-from most 0 w
-unfolding number-of
-number-first most [] n = absurd (n refl)
-number-first most (c ∷ cs) n = refl
 
 pub number-none : (most : ℕ) (w : List ℕ) → length w ≡ 0 → number-of most w ≡ Refused
 unfolding number-of

@@ -1,14 +1,11 @@
 -- `ask::hold` is safe and ends: what is held stays within the buffer. Assumes nothing.
-use Prim.Native.Nat.{ℕ, zero, suc, _+_, _*_, _-_, _≤_, _<_}
-use mathlib.Core.Path.{_≡_, refl, sym, ap, _∙_}
-use native.Mathlib.Omega.{arith}
-use lib.ListN.{length, getD, set}
+use Prim.Native.Nat.{_-_}
+use mathlib.Core.Path.{_≡_}
+use lib.ListN.{length}
 use borrow.Author.Needs.{needs}
 use lib.ListN.{length-set}
 use Rattle.ask.proofs.hold.Statement.{statement}
 use Rattle.ask.proofs.hold.Tie as tie
-use Rattle.ask.proofs.hold.Reads as reads
-use Rattle.ask.proofs.hold.Lts as lts
 
 abbrev Inv-loop : tie.InvT-loop
 Inv-loop line₀ held part n₀ i₀ line n i = length line ≡ length line₀
@@ -16,47 +13,36 @@ Inv-loop line₀ held part n₀ i₀ line n i = length line ≡ length line₀
 abbrev μ-loop : tie.MeasureT-loop
 μ-loop line₀ held part n₀ i₀ line n i = length part - i
 
--- src/main.rt:179:5
 loop-holds : tie.Need-loop-holds Inv-loop μ-loop
 loop-holds c = search needs
 
--- src/main.rt:181:13
 same-length : tie.Need-same-length Inv-loop μ-loop
 same-length c = search needs
 
--- src/main.rt:181:13
 returns : tie.Need-returns Inv-loop μ-loop
 returns c = search needs
 
--- src/main.rt:183:19
 shared-slice-read-line : tie.Need-shared-slice-read-line Inv-loop μ-loop
 shared-slice-read-line c = search needs
 
--- src/main.rt:183:9
 slice-write-line : tie.Need-slice-write-line Inv-loop μ-loop
 slice-write-line c = search needs
 
--- src/main.rt:184:9
 add-n : tie.Need-add-n Inv-loop μ-loop
 add-n c = search needs
 
--- src/main.rt:185:9
 add-i : tie.Need-add-i Inv-loop μ-loop
 add-i c = search needs
 
--- src/main.rt:179:5
 loop-less : tie.Need-loop-less Inv-loop μ-loop
 loop-less c = search needs
 
--- src/main.rt:179:5
 loop-again : tie.Need-loop-again Inv-loop μ-loop
 loop-again c = simp length-set (search needs)
 
--- src/main.rt:176:1
 same-length-2 : tie.Need-same-length-2 Inv-loop μ-loop
 same-length-2 c = search needs
 
--- src/main.rt:176:1
 returns-2 : tie.Need-returns-2 Inv-loop μ-loop
 returns-2 c = search needs
 

@@ -1,16 +1,10 @@
 -- `ask::take` is safe and ends: each turn begins behind the end of a line. The buffers keep their lengths. Assumes nothing.
-use Prim.Native.Nat.{ℕ, zero, suc, _+_, _*_, _-_, _≤_, _<_}
-use mathlib.Core.Path.{_≡_, refl, sym, ap, _∙_}
-use native.Mathlib.Omega.{arith}
-use lib.ListN.{length, getD, set}
+use Prim.Native.Nat.{_-_}
+use mathlib.Core.Path.{_≡_}
+use lib.ListN.{length}
 use borrow.Author.Needs.{needs}
 use Rattle.ask.proofs.take.Statement.{statement}
 use Rattle.ask.proofs.take.Tie as tie
-use Rattle.ask.proofs.take.Reads as reads
-use Rattle.ask.proofs.take.Lts as lts
-use Rattle.ask.proofs.answer_held.Reads as answer-held-reads
-use Rattle.ask.proofs.hold.Reads as hold-reads
-use Rattle.fields.proofs.end_of.Reads as end-of-reads
 
 abbrev Inv-loop : tie.InvT-loop
 Inv-loop piece line₀ record₀ area₀ bytes₀ list₀ priorities₀ requests₀ out₀ held₀ at₀ from₀ line «record» area bytes list priorities requests out held at from =
@@ -20,115 +14,87 @@ abbrev μ-loop : tie.MeasureT-loop
 μ-loop piece line₀ record₀ area₀ bytes₀ list₀ priorities₀ requests₀ out₀ held₀ at₀ from₀ line «record» area bytes list priorities requests out held at from =
     length piece - from
 
--- src/main.rt:206:5
 loop-holds : tie.Need-loop-holds Inv-loop μ-loop
 loop-holds c = search needs
 
--- src/main.rt:207:13
 end-of-requires : tie.Need-end-of-requires Inv-loop μ-loop
 end-of-requires c κs = search needs
 
--- src/main.rt:208:33
 sub-hold : tie.Need-sub-hold Inv-loop μ-loop
 sub-hold c = search needs
 
--- src/main.rt:208:33
 part-hold-start : tie.Need-part-hold-start Inv-loop μ-loop
 part-hold-start c = search needs
 
--- src/main.rt:208:33
 part-hold-end : tie.Need-part-hold-end Inv-loop μ-loop
 part-hold-end c = search needs
 
--- src/main.rt:208:9
 hold-requires : tie.Need-hold-requires Inv-loop μ-loop
 hold-requires c κs = search needs
 
--- src/main.rt:210:13
 same-length : tie.Need-same-length Inv-loop μ-loop
 same-length c = search needs
 
--- src/main.rt:210:13
 same-length-2 : tie.Need-same-length-2 Inv-loop μ-loop
 same-length-2 c = search needs
 
--- src/main.rt:210:13
 same-length-3 : tie.Need-same-length-3 Inv-loop μ-loop
 same-length-3 c = search needs
 
--- src/main.rt:210:13
 same-length-4 : tie.Need-same-length-4 Inv-loop μ-loop
 same-length-4 c = search needs
 
--- src/main.rt:210:13
 same-length-5 : tie.Need-same-length-5 Inv-loop μ-loop
 same-length-5 c = search needs
 
--- src/main.rt:210:13
 same-length-6 : tie.Need-same-length-6 Inv-loop μ-loop
 same-length-6 c = search needs
 
--- src/main.rt:210:13
 same-length-7 : tie.Need-same-length-7 Inv-loop μ-loop
 same-length-7 c = search needs
 
--- src/main.rt:210:13
 same-length-8 : tie.Need-same-length-8 Inv-loop μ-loop
 same-length-8 c = search needs
 
--- src/main.rt:210:13
 returns : tie.Need-returns Inv-loop μ-loop
 returns c = search needs
 
--- src/main.rt:212:16
 add-from : tie.Need-add-from Inv-loop μ-loop
 add-from c = search needs
 
--- src/main.rt:213:9
 answer-held-requires : tie.Need-answer-held-requires Inv-loop μ-loop
 answer-held-requires c κs = search needs
 
--- src/main.rt:206:5
 loop-less : tie.Need-loop-less Inv-loop μ-loop
 loop-less c = search needs
 
--- src/main.rt:206:5
 loop-again : tie.Need-loop-again Inv-loop μ-loop
 loop-again c = search needs
 
--- src/main.rt:191:1
 same-length-9 : tie.Need-same-length-9 Inv-loop μ-loop
 same-length-9 c = search needs
 
--- src/main.rt:191:1
 same-length-10 : tie.Need-same-length-10 Inv-loop μ-loop
 same-length-10 c = search needs
 
--- src/main.rt:191:1
 same-length-11 : tie.Need-same-length-11 Inv-loop μ-loop
 same-length-11 c = search needs
 
--- src/main.rt:191:1
 same-length-12 : tie.Need-same-length-12 Inv-loop μ-loop
 same-length-12 c = search needs
 
--- src/main.rt:191:1
 same-length-13 : tie.Need-same-length-13 Inv-loop μ-loop
 same-length-13 c = search needs
 
--- src/main.rt:191:1
 same-length-14 : tie.Need-same-length-14 Inv-loop μ-loop
 same-length-14 c = search needs
 
--- src/main.rt:191:1
 same-length-15 : tie.Need-same-length-15 Inv-loop μ-loop
 same-length-15 c = search needs
 
--- src/main.rt:191:1
 same-length-16 : tie.Need-same-length-16 Inv-loop μ-loop
 same-length-16 c = search needs
 
--- src/main.rt:191:1
 returns-2 : tie.Need-returns-2 Inv-loop μ-loop
 returns-2 c = search needs
 

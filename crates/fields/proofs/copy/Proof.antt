@@ -1,8 +1,7 @@
 -- `fields::copy` meets its contract. The loop's invariant: the first i bytes stand where they belong. Assumes nothing.
-use Prim.Native.Nat.{ℕ, zero, suc, _+_, _*_, _-_, _≤_, _<_}
-use mathlib.Core.Path.{_≡_, refl, sym, ap, _∙_}
-use native.Mathlib.Omega.{arith}
-use lib.ListN.{length, getD, set}
+use Prim.Native.Nat.{_-_, _≤_}
+use mathlib.Core.Path.{_≡_, refl, sym}
+use lib.ListN.{length}
 use borrow.Author.Needs.{needs}
 use lib.ListN.{take, length-set}
 use Rattle.words.specs.Words.{put}
@@ -10,8 +9,6 @@ use Rattle.words.specs.Laws.{put-none}
 use Rattle.fields.proofs.Steps.{copy-more, copy-all}
 use Rattle.fields.proofs.copy.Statement.{statement}
 use Rattle.fields.proofs.copy.Tie as tie
-use Rattle.fields.proofs.copy.Reads as reads
-use Rattle.fields.proofs.copy.Lts as lts
 
 abbrev Inv-loop : tie.InvT-loop
 Inv-loop out₀ at word i₀ out i = (i ≤ length word) × (length out ≡ length out₀) × (out ≡ put out₀ at (take i word))
@@ -19,40 +16,31 @@ Inv-loop out₀ at word i₀ out i = (i ≤ length word) × (length out ≡ leng
 abbrev μ-loop : tie.MeasureT-loop
 μ-loop out₀ at word i₀ out i = length word - i
 
--- src/lib.rt:176:5
 loop-holds : tie.Need-loop-holds Inv-loop μ-loop
 loop-holds c = (search needs, refl, sym (put-none _ _))
 
--- src/lib.rt:177:23
 shared-slice-read-out : tie.Need-shared-slice-read-out Inv-loop μ-loop
 shared-slice-read-out c = search needs
 
--- src/lib.rt:177:13
 add-out : tie.Need-add-out Inv-loop μ-loop
 add-out c = search needs
 
--- src/lib.rt:177:9
 slice-write-out : tie.Need-slice-write-out Inv-loop μ-loop
 slice-write-out c = search needs
 
--- src/lib.rt:178:9
 add-i : tie.Need-add-i Inv-loop μ-loop
 add-i c = search needs
 
--- src/lib.rt:176:5
 loop-less : tie.Need-loop-less Inv-loop μ-loop
 loop-less c = search needs
 
--- src/lib.rt:176:5
 loop-again : tie.Need-loop-again Inv-loop μ-loop
 loop-again c =
     (search needs, simp length-set (search needs), copy-more _ _ _ _ _ (search needs) (search needs) (search needs) (c .before .before .loop .inv .2))
 
--- src/lib.rt:171:1
 same-length : tie.Need-same-length Inv-loop μ-loop
 same-length c = search needs
 
--- src/lib.rt:171:1
 returns : tie.Need-returns Inv-loop μ-loop
 returns c = copy-all _ _ _ (c .before .loop .i) _ (search needs) (c .before .loop .inv .2)
 

@@ -1,17 +1,15 @@
 -- `fields::end_of` meets its contract. The loop's invariant: what is left has as many before its separator as the answer is off.
 -- Assumes nothing.
-use Prim.Native.Nat.{ℕ, zero, suc, _+_, _*_, _-_, _≤_, _<_}
-use mathlib.Core.Path.{_≡_, refl, sym, ap, _∙_}
+use Prim.Native.Nat.{_+_, _-_, _≤_}
+use mathlib.Core.Path.{_≡_, refl}
 use native.Mathlib.Omega.{arith}
-use lib.ListN.{length, getD, set}
+use lib.ListN.{length}
 use borrow.Author.Needs.{needs}
 use lib.ListN.{drop}
 use Rattle.fields.specs.Fields.{before}
 use Rattle.fields.proofs.Steps.{before-here, before-more, before-end}
 use Rattle.fields.proofs.end_of.Statement.{statement}
 use Rattle.fields.proofs.end_of.Tie as tie
-use Rattle.fields.proofs.end_of.Reads as reads
-use Rattle.fields.proofs.end_of.Lts as lts
 
 abbrev Inv-loop : tie.InvT-loop
 Inv-loop line from separator i₀ i = (from ≤ i) × (i ≤ from + (length line - from)) × (from + before separator (drop from line) ≡ i + before separator (drop i line))
@@ -19,37 +17,30 @@ Inv-loop line from separator i₀ i = (from ≤ i) × (i ≤ from + (length line
 abbrev μ-loop : tie.MeasureT-loop
 μ-loop line from separator i₀ i = length line - i
 
--- src/lib.rt:23:5
 loop-holds : tie.Need-loop-holds Inv-loop μ-loop
 loop-holds c = (search needs, search needs, refl)
 
--- src/lib.rt:24:12
 shared-slice-read-if1 : tie.Need-shared-slice-read-if1 Inv-loop μ-loop
 shared-slice-read-if1 c = search needs
 
--- src/lib.rt:25:13
 returns : tie.Need-returns Inv-loop μ-loop
 returns c =
     let l = c .before .before .before .loop in
     let a = c .before .before .before .before .args in
     (omega (arith, before-here (a .separator) (a .line .now) (l .i) (search needs) (search needs)), search needs)
 
--- src/lib.rt:27:9
 add-i : tie.Need-add-i Inv-loop μ-loop
 add-i c = search needs
 
--- src/lib.rt:23:5
 loop-less : tie.Need-loop-less Inv-loop μ-loop
 loop-less c = search needs
 
--- src/lib.rt:23:5
 loop-again : tie.Need-loop-again Inv-loop μ-loop
 loop-again c =
     let l = c .before .before .before .loop in
     let a = c .before .before .before .before .args in
     (search needs, search needs, omega (arith, before-more (a .separator) (a .line .now) (l .i) (search needs) (λ e. omega arith)))
 
--- src/lib.rt:18:1
 returns-2 : tie.Need-returns-2 Inv-loop μ-loop
 returns-2 c =
     let l = c .before .loop in

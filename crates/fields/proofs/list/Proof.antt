@@ -1,17 +1,11 @@
 -- `fields::list` is safe and ends: each turn fills a place of the buffer, and begins within the word. Assumes nothing.
-use Prim.Native.Nat.{ℕ, zero, suc, _+_, _*_, _-_, _≤_, _<_}
-use mathlib.Core.Path.{_≡_, refl, sym, ap, _∙_}
-use native.Mathlib.Omega.{arith}
-use lib.ListN.{length, getD, set}
+use Prim.Native.Nat.{_-_, _≤_}
+use mathlib.Core.Path.{_≡_}
+use lib.ListN.{length}
 use borrow.Author.Needs.{needs}
 use lib.ListN.{length-set}
 use Rattle.fields.proofs.list.Statement.{statement}
 use Rattle.fields.proofs.list.Tie as tie
-use Rattle.fields.proofs.list.Reads as reads
-use Rattle.fields.proofs.list.Lts as lts
-use Rattle.fields.proofs.end_of.Reads as end-of-reads
-use Rattle.fields.proofs.is_none.Reads as is-none-reads
-use Rattle.fields.proofs.number.Reads as number-reads
 
 abbrev Inv-loop : tie.InvT-loop
 Inv-loop word out₀ n₀ from₀ out n from = (n ≤ length out₀) × (from ≤ length word) × (length out ≡ length out₀)
@@ -19,95 +13,72 @@ Inv-loop word out₀ n₀ from₀ out n from = (n ≤ length out₀) × (from �
 abbrev μ-loop : tie.MeasureT-loop
 μ-loop word out₀ n₀ from₀ out n from = length out₀ - n
 
--- src/lib.rt:123:8
 is-none-requires : tie.Need-is-none-requires Inv-loop μ-loop
 is-none-requires c κs = search needs
 
--- src/lib.rt:124:9
 returns : tie.Need-returns Inv-loop μ-loop
 returns c = search needs
 
--- src/lib.rt:128:5
 loop-holds : tie.Need-loop-holds Inv-loop μ-loop
 loop-holds c = search needs
 
--- src/lib.rt:129:13
 end-of-requires : tie.Need-end-of-requires Inv-loop μ-loop
 end-of-requires c κs = search needs
 
--- src/lib.rt:130:28
 sub-number : tie.Need-sub-number Inv-loop μ-loop
 sub-number c = search needs
 
--- src/lib.rt:130:28
 part-number-start : tie.Need-part-number-start Inv-loop μ-loop
 part-number-start c = search needs
 
--- src/lib.rt:130:28
 part-number-end : tie.Need-part-number-end Inv-loop μ-loop
 part-number-end c = search needs
 
--- src/lib.rt:130:13
 number-requires : tie.Need-number-requires Inv-loop μ-loop
 number-requires c κs = search needs
 
--- src/lib.rt:131:23
 enum-known-entry : tie.Need-enum-known-entry Inv-loop μ-loop
 enum-known-entry c = search needs
 
--- src/lib.rt:132:13
 enum-told : tie.Need-enum-told Inv-loop μ-loop
 enum-told c = search needs
 
--- src/lib.rt:132:13
 same-length : tie.Need-same-length Inv-loop μ-loop
 same-length c = search needs
 
--- src/lib.rt:132:13
 returns-2 : tie.Need-returns-2 Inv-loop μ-loop
 returns-2 c = search needs
 
--- src/lib.rt:134:18
 cast-out : tie.Need-cast-out Inv-loop μ-loop
 cast-out c = search needs
 
--- src/lib.rt:134:9
 mul-out : tie.Need-mul-out Inv-loop μ-loop
 mul-out c = search needs
 
--- src/lib.rt:134:9
 slice-write-out : tie.Need-slice-write-out Inv-loop μ-loop
 slice-write-out c = search needs
 
--- src/lib.rt:135:9
 add-n : tie.Need-add-n Inv-loop μ-loop
 add-n c = search needs
 
--- src/lib.rt:137:13
 same-length-2 : tie.Need-same-length-2 Inv-loop μ-loop
 same-length-2 c = search needs
 
--- src/lib.rt:137:13
 returns-3 : tie.Need-returns-3 Inv-loop μ-loop
 returns-3 c = search needs
 
--- src/lib.rt:139:16
 add-from : tie.Need-add-from Inv-loop μ-loop
 add-from c = search needs
 
--- src/lib.rt:128:5
 loop-less : tie.Need-loop-less Inv-loop μ-loop
 loop-less c = search needs
 
--- src/lib.rt:128:5
 loop-again : tie.Need-loop-again Inv-loop μ-loop
 loop-again c = (search needs, search needs, simp length-set (search needs))
 
--- src/lib.rt:122:1
 same-length-3 : tie.Need-same-length-3 Inv-loop μ-loop
 same-length-3 c = search needs
 
--- src/lib.rt:122:1
 returns-4 : tie.Need-returns-4 Inv-loop μ-loop
 returns-4 c = search needs
 

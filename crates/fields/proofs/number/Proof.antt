@@ -1,16 +1,15 @@
 -- `fields::number` meets its contract. The loop's invariant: with the number so far, what is left decides. Assumes nothing.
-use Prim.Native.Nat.{ℕ, zero, suc, _+_, _*_, _-_, _≤_, _<_}
-use mathlib.Core.Path.{_≡_, refl, sym, ap, _∙_}
+use Prim.Native.Nat.{_-_, _≤_}
+use mathlib.Core.Path.{_≡_, refl, sym, _∙_}
 use native.Mathlib.Omega.{arith}
-use lib.ListN.{length, getD, set}
+use lib.ListN.{length}
 use borrow.Author.Needs.{needs}
 use lib.ListN.{drop}
-use Rattle.fields.specs.Fields.{number-from, number-of}
-use Rattle.fields.proofs.Steps.{number-first, number-none, char-low, char-high, digit-more, number-end, number-large}
+use Rattle.fields.specs.Fields.{number-from}
+use Rattle.fields.specs.Laws.{number-first}
+use Rattle.fields.proofs.Steps.{number-none, char-low, char-high, digit-more, number-end, number-large}
 use Rattle.fields.proofs.number.Statement.{statement}
 use Rattle.fields.proofs.number.Tie as tie
-use Rattle.fields.proofs.number.Reads as reads
-use Rattle.fields.proofs.number.Lts as lts
 
 abbrev Inv-loop : tie.InvT-loop
 Inv-loop word most limit n₀ i₀ n i = (i ≤ length word) × (n ≤ most) × (number-from most 0 word ≡ number-from most n (drop i word))
@@ -18,63 +17,50 @@ Inv-loop word most limit n₀ i₀ n i = (i ≤ length word) × (n ≤ most) × 
 abbrev μ-loop : tie.MeasureT-loop
 μ-loop word most limit n₀ i₀ n i = length word - i
 
--- src/lib.rt:94:9
 returns : tie.Need-returns Inv-loop μ-loop
 returns c = sym (number-none _ _ (search needs))
 
--- src/lib.rt:99:5
 loop-holds : tie.Need-loop-holds Inv-loop μ-loop
 loop-holds c = (search needs, search needs, refl)
 
--- src/lib.rt:100:17
 shared-slice-read-c : tie.Need-shared-slice-read-c Inv-loop μ-loop
 shared-slice-read-c c = search needs
 
--- src/lib.rt:102:13
 returns-2 : tie.Need-returns-2 Inv-loop μ-loop
 returns-2 c =
     let l = c .before .before .before .loop in
     sym (number-first _ _ (λ e. omega arith) ∙ l .inv .2 ∙ char-low _ _ _ (l .i) (search needs) (search needs))
 
--- src/lib.rt:105:13
 returns-3 : tie.Need-returns-3 Inv-loop μ-loop
 returns-3 c =
     let l = c .before .before .before .before .loop in
     sym (number-first _ _ (λ e. omega arith) ∙ l .inv .2 ∙ char-high _ _ _ (l .i) (search needs) (search needs) (search needs))
 
--- src/lib.rt:107:13
 mul-n : tie.Need-mul-n Inv-loop μ-loop
 mul-n c = search needs
 
--- src/lib.rt:107:22
 cast-n : tie.Need-cast-n Inv-loop μ-loop
 cast-n c = search needs
 
--- src/lib.rt:107:13
 add-n : tie.Need-add-n Inv-loop μ-loop
 add-n c = search needs
 
--- src/lib.rt:109:13
 returns-4 : tie.Need-returns-4 Inv-loop μ-loop
 returns-4 c =
     let l = c .before .before .before .before .before .loop in
     sym (number-first _ _ (λ e. omega arith) ∙ l .inv .2 ∙ digit-more _ _ _ (l .i) (search needs) (search needs) (search needs) ∙ number-large _ _ _ (search needs))
 
--- src/lib.rt:111:9
 add-i : tie.Need-add-i Inv-loop μ-loop
 add-i c = search needs
 
--- src/lib.rt:99:5
 loop-less : tie.Need-loop-less Inv-loop μ-loop
 loop-less c = search needs
 
--- src/lib.rt:99:5
 loop-again : tie.Need-loop-again Inv-loop μ-loop
 loop-again c =
     let l = c .before .before .before .before .before .loop in
     (search needs, search needs, l .inv .2 ∙ digit-more _ _ _ (l .i) (search needs) (search needs) (search needs))
 
--- src/lib.rt:90:1
 returns-5 : tie.Need-returns-5 Inv-loop μ-loop
 returns-5 c =
     let l = c .before .loop in

@@ -1,37 +1,25 @@
 -- `fields::write_number` meets its contract, by its tests in their order. Assumes nothing.
-use Prim.Native.Nat.{ℕ, zero, suc, _+_, _*_, _-_, _≤_, _<_}
-use mathlib.Core.Path.{_≡_, refl, sym, ap, _∙_}
 use native.Mathlib.Omega.{arith}
-use lib.ListN.{length, getD, set}
 use borrow.Author.Needs.{needs}
 use Rattle.fields.proofs.write_number.Statement.{statement}
 use Rattle.fields.proofs.write_number.Tie as tie
-use Rattle.fields.proofs.write_number.Reads as reads
-use Rattle.fields.proofs.write_number.Lts as lts
-use Rattle.text.proofs.write_number.Reads as write-number-reads
 use Rattle.hex.specs.Laws.{no-room, with-room}
 
--- src/lib.rt:188:9
 returns : tie.Need-returns
 returns c = no-room _ _ _ _ (omega arith)
 
--- src/lib.rt:190:8
 sub-if2 : tie.Need-sub-if2
 sub-if2 c = search needs
 
--- src/lib.rt:191:9
 returns-2 : tie.Need-returns-2
 returns-2 c = no-room _ _ _ _ (omega arith)
 
--- src/lib.rt:193:5
 write-number-requires : tie.Need-write-number-requires
 write-number-requires c κs = search needs
 
--- src/lib.rt:183:1
 same-length : tie.Need-same-length
 same-length c = search needs
 
--- src/lib.rt:183:1
 returns-3 : tie.Need-returns-3
 returns-3 c =
     let done = c .before .before .write-number .ensures in

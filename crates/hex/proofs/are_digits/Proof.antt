@@ -1,17 +1,14 @@
 -- `hex::are_digits` meets its contract. The loop's invariant: what is left of the word decides. Assumes nothing.
-use Prim.Native.Nat.{ℕ, zero, suc, _+_, _*_, _-_, _≤_, _<_}
-use mathlib.Core.Path.{_≡_, refl, sym, ap, _∙_}
+use Prim.Native.Nat.{_-_, _≤_}
+use mathlib.Core.Path.{_≡_, refl, sym, _∙_}
 use native.Mathlib.Omega.{arith}
-use lib.ListN.{length, getD, set}
+use lib.ListN.{length}
 use borrow.Author.Needs.{needs}
 use lib.ListN.{drop}
 use Rattle.hex.specs.Hex.{all-digits}
 use Rattle.hex.proofs.Steps.{digits-more, digits-fail, digits-end}
 use Rattle.hex.proofs.are_digits.Statement.{statement}
 use Rattle.hex.proofs.are_digits.Tie as tie
-use Rattle.hex.proofs.are_digits.Reads as reads
-use Rattle.hex.proofs.are_digits.Lts as lts
-use Rattle.hex.proofs.value.Reads as value-reads
 
 abbrev Inv-loop : tie.InvT-loop
 Inv-loop word i₀ i = (i ≤ length word) × (all-digits word ≡ all-digits (drop i word))
@@ -19,39 +16,31 @@ Inv-loop word i₀ i = (i ≤ length word) × (all-digits word ≡ all-digits (d
 abbrev μ-loop : tie.MeasureT-loop
 μ-loop word i₀ i = length word - i
 
--- src/lib.rt:50:5
 loop-holds : tie.Need-loop-holds Inv-loop μ-loop
 loop-holds c = (search needs, refl)
 
--- src/lib.rt:51:23
 shared-slice-read-value : tie.Need-shared-slice-read-value Inv-loop μ-loop
 shared-slice-read-value c = search needs
 
--- src/lib.rt:51:17
 value-requires : tie.Need-value-requires Inv-loop μ-loop
 value-requires c κs = search needs
 
--- src/lib.rt:52:13
 returns : tie.Need-returns Inv-loop μ-loop
 returns c =
     let l = c .before .before .before .before .loop in
     sym (l .inv .1 ∙ digits-fail _ (l .i) (search needs) (omega arith))
 
--- src/lib.rt:54:9
 add-i : tie.Need-add-i Inv-loop μ-loop
 add-i c = search needs
 
--- src/lib.rt:50:5
 loop-less : tie.Need-loop-less Inv-loop μ-loop
 loop-less c = search needs
 
--- src/lib.rt:50:5
 loop-again : tie.Need-loop-again Inv-loop μ-loop
 loop-again c =
     let l = c .before .before .before .before .loop in
     (search needs, l .inv .1 ∙ digits-more _ (l .i) (search needs) (omega arith))
 
--- src/lib.rt:46:1
 returns-2 : tie.Need-returns-2 Inv-loop μ-loop
 returns-2 c =
     let l = c .before .loop in

@@ -1,45 +1,30 @@
 -- `hex::byte` meets its contract: 16 bits have room for the sum. Assumes nothing.
-use Prim.Native.Nat.{ℕ, zero, suc, _+_, _*_, _-_, _≤_, _<_}
-use mathlib.Core.Path.{_≡_, refl, sym, ap, _∙_}
-use native.Mathlib.Omega.{arith}
-use lib.ListN.{length, getD, set}
 use borrow.Author.Needs.{needs}
 use Rattle.hex.specs.Hex.{byte-of}
 use Rattle.hex.proofs.byte.Statement.{statement}
 use Rattle.hex.proofs.byte.Tie as tie
-use Rattle.hex.proofs.byte.Reads as reads
-use Rattle.hex.proofs.byte.Lts as lts
-use Rattle.hex.proofs.value.Reads as value-reads
 
--- src/lib.rt:63:12
 value-requires : tie.Need-value-requires
 value-requires c κs = search needs
 
--- src/lib.rt:63:12
 cast-result : tie.Need-cast-result
 cast-result c = search needs
 
--- src/lib.rt:63:7
 mul-result : tie.Need-mul-result
 mul-result c = search needs
 
--- src/lib.rt:63:33
 value-requires-2 : tie.Need-value-requires-2
 value-requires-2 c κs = search needs
 
--- src/lib.rt:63:33
 cast-result-2 : tie.Need-cast-result-2
 cast-result-2 c = search needs
 
--- src/lib.rt:63:7
 add-result : tie.Need-add-result
 add-result c = search needs
 
--- src/lib.rt:63:5
 cast-result-3 : tie.Need-cast-result-3
 cast-result-3 c = search needs
 
--- src/lib.rt:60:1
 returns : tie.Need-returns
 unfolding byte-of
 returns c = search needs

@@ -1,47 +1,33 @@
 -- `hex::read` meets its contract, by its tests in their order. Assumes nothing.
-use Prim.Native.Nat.{ℕ, zero, suc, _+_, _*_, _-_, _≤_, _<_}
-use mathlib.Core.Path.{_≡_, refl, sym, ap, _∙_}
+use mathlib.Core.Path.{sym, _∙_}
 use native.Mathlib.Omega.{arith}
-use lib.ListN.{length, getD, set}
 use borrow.Author.Needs.{needs}
 use borrow.Author.Tests.{not-true, not-false}
 use Rattle.hex.specs.Laws.{word-refused, word-read, odd-unreadable, long-unreadable, other-unreadable, pairs-readable}
 use Rattle.hex.proofs.read.Statement.{statement}
 use Rattle.hex.proofs.read.Tie as tie
-use Rattle.hex.proofs.read.Reads as reads
-use Rattle.hex.proofs.read.Lts as lts
-use Rattle.hex.proofs.are_digits.Reads as are-digits-reads
-use Rattle.hex.proofs.read_pairs.Reads as read-pairs-reads
 
--- src/lib.rt:85:22
 mul-if1 : tie.Need-mul-if1
 mul-if1 c = search needs
 
--- src/lib.rt:86:9
 returns : tie.Need-returns
 returns c = word-refused _ _ (odd-unreadable _ _ (λ e. omega arith))
 
--- src/lib.rt:89:9
 returns-2 : tie.Need-returns-2
 returns-2 c = word-refused _ _ (long-unreadable _ _ (search needs))
 
--- src/lib.rt:91:9
 are-digits-requires : tie.Need-are-digits-requires
 are-digits-requires c κs = search needs
 
--- src/lib.rt:92:9
 returns-3 : tie.Need-returns-3
 returns-3 c = word-refused _ _ (other-unreadable _ _ (sym (c .before .are-digits .ensures) ∙ not-true _ (c .if3 .taken)))
 
--- src/lib.rt:94:5
 read-pairs-requires : tie.Need-read-pairs-requires
 read-pairs-requires c κs = search needs
 
--- src/lib.rt:80:1
 same-length : tie.Need-same-length
 same-length c = search needs
 
--- src/lib.rt:80:1
 returns-4 : tie.Need-returns-4
 returns-4 c =
     let d = c .before .before .before .before in

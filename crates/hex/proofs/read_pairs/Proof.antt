@@ -1,8 +1,7 @@
 -- `hex::read_pairs` meets its contract. The loop's invariant: the first i bytes stand at the start. Assumes nothing.
-use Prim.Native.Nat.{ℕ, zero, suc, _+_, _*_, _-_, _≤_, _<_}
-use mathlib.Core.Path.{_≡_, refl, sym, ap, _∙_}
-use native.Mathlib.Omega.{arith}
-use lib.ListN.{length, getD, set}
+use Prim.Native.Nat.{_-_, _≤_}
+use mathlib.Core.Path.{_≡_, refl, sym}
+use lib.ListN.{length}
 use borrow.Author.Needs.{needs}
 use lib.ListN.{take, length-set}
 use Rattle.words.specs.Words.{put}
@@ -11,9 +10,6 @@ use Rattle.hex.specs.Hex.{bytes-of}
 use Rattle.hex.proofs.Steps.{bytes-more, bytes-all}
 use Rattle.hex.proofs.read_pairs.Statement.{statement}
 use Rattle.hex.proofs.read_pairs.Tie as tie
-use Rattle.hex.proofs.read_pairs.Reads as reads
-use Rattle.hex.proofs.read_pairs.Lts as lts
-use Rattle.hex.proofs.byte.Reads as byte-reads
 
 abbrev Inv-loop : tie.InvT-loop
 Inv-loop word size out₀ i₀ out i = (i ≤ size) × (length out ≡ length out₀) × (out ≡ put out₀ 0 (take i (bytes-of word)))
@@ -21,57 +17,44 @@ Inv-loop word size out₀ i₀ out i = (i ≤ size) × (length out ≡ length ou
 abbrev μ-loop : tie.MeasureT-loop
 μ-loop word size out₀ i₀ out i = size - i
 
--- src/lib.rt:72:5
 loop-holds : tie.Need-loop-holds Inv-loop μ-loop
 loop-holds c = (search needs, refl, sym (put-none _ _))
 
--- src/lib.rt:73:28
 mul-byte : tie.Need-mul-byte Inv-loop μ-loop
 mul-byte c = search needs
 
--- src/lib.rt:73:23
 shared-slice-read-byte : tie.Need-shared-slice-read-byte Inv-loop μ-loop
 shared-slice-read-byte c = search needs
 
--- src/lib.rt:73:41
 mul-byte-2 : tie.Need-mul-byte-2 Inv-loop μ-loop
 mul-byte-2 c = search needs
 
--- src/lib.rt:73:41
 add-byte : tie.Need-add-byte Inv-loop μ-loop
 add-byte c = search needs
 
--- src/lib.rt:73:36
 shared-slice-read-byte-2 : tie.Need-shared-slice-read-byte-2 Inv-loop μ-loop
 shared-slice-read-byte-2 c = search needs
 
--- src/lib.rt:73:18
 byte-requires : tie.Need-byte-requires Inv-loop μ-loop
 byte-requires c κs = search needs
 
--- src/lib.rt:73:9
 slice-write-out : tie.Need-slice-write-out Inv-loop μ-loop
 slice-write-out c = search needs
 
--- src/lib.rt:74:9
 add-i : tie.Need-add-i Inv-loop μ-loop
 add-i c = search needs
 
--- src/lib.rt:72:5
 loop-less : tie.Need-loop-less Inv-loop μ-loop
 loop-less c = search needs
 
--- src/lib.rt:72:5
 loop-again : tie.Need-loop-again Inv-loop μ-loop
 loop-again c =
     let l = c .before .before .before .before .loop in
     (search needs, simp length-set (search needs), bytes-more _ _ (c .before .before .before .before .before .before .before .args .size) (search needs) (search needs) (l .i) (l .out) (c .byte .result) (search needs) (search needs) (l .inv .2) (c .byte .ensures))
 
--- src/lib.rt:67:1
 same-length : tie.Need-same-length Inv-loop μ-loop
 same-length c = search needs
 
--- src/lib.rt:67:1
 returns : tie.Need-returns Inv-loop μ-loop
 returns c = bytes-all _ _ (c .before .before .before .before .args .size) (search needs) (search needs) (c .before .loop .i) _ (search needs) (c .before .loop .inv .2)
 

@@ -1,41 +1,29 @@
 -- `hex::value` meets its contract, by its tests in their order. Assumes nothing.
-use Prim.Native.Nat.{ℕ, zero, suc, _+_, _*_, _-_, _≤_, _<_}
-use mathlib.Core.Path.{_≡_, refl, sym, ap, _∙_}
-use native.Mathlib.Omega.{arith}
-use lib.ListN.{length, getD, set}
 use borrow.Author.Needs.{needs}
 use borrow.Author.Tests.{le-leb, lt-leb, lt-ltb, le-ltb}
 use Rattle.hex.specs.Hex.{value-of}
 use Rattle.hex.proofs.value.Statement.{statement}
 use Rattle.hex.proofs.value.Tie as tie
-use Rattle.hex.proofs.value.Reads as reads
-use Rattle.hex.proofs.value.Lts as lts
 
--- src/lib.rt:20:9
 returns : tie.Need-returns
 unfolding value-of
 returns c = simp (lt-ltb _ _ (c .if1 .taken))
 
--- src/lib.rt:23:9
 returns-2 : tie.Need-returns-2
 unfolding value-of
 returns-2 c = simp (le-ltb _ _ (c .before .if1 .left), le-leb _ _ (c .if2 .taken))
 
--- src/lib.rt:26:9
 returns-3 : tie.Need-returns-3
 unfolding value-of
 returns-3 c = simp (le-ltb _ _ (c .before .before .if1 .left), lt-leb _ _ (c .before .if2 .left), lt-ltb _ _ (c .if3 .taken))
 
--- src/lib.rt:29:16
 sub-result : tie.Need-sub-result
 sub-result c = search needs
 
--- src/lib.rt:29:9
 returns-4 : tie.Need-returns-4
 unfolding value-of
 returns-4 c = simp (le-ltb _ _ (c .before .before .before .if1 .left), lt-leb _ _ (c .before .before .if2 .left), le-ltb _ _ (c .before .if3 .left), le-leb _ _ (c .if4 .taken))
 
--- src/lib.rt:16:1
 returns-5 : tie.Need-returns-5
 unfolding value-of
 returns-5 c = simp (le-ltb _ _ (c .before .before .before .if1 .left), lt-leb _ _ (c .before .before .if2 .left), le-ltb _ _ (c .before .if3 .left), lt-leb _ _ (c .if4 .left))

@@ -1,45 +1,31 @@
 -- `hex::write` meets its contract, by its tests in their order. Assumes nothing.
-use Prim.Native.Nat.{ℕ, zero, suc, _+_, _*_, _-_, _≤_, _<_}
-use mathlib.Core.Path.{_≡_, refl, sym, ap, _∙_}
 use native.Mathlib.Omega.{arith}
-use lib.ListN.{length, getD, set}
 use borrow.Author.Needs.{needs}
 use Rattle.hex.specs.Laws.{no-room, with-room, digits-length}
 use Rattle.hex.proofs.write.Statement.{statement}
 use Rattle.hex.proofs.write.Tie as tie
-use Rattle.hex.proofs.write.Reads as reads
-use Rattle.hex.proofs.write.Lts as lts
-use Rattle.hex.proofs.write_pairs.Reads as write-pairs-reads
 
--- src/lib.rt:118:9
 returns : tie.Need-returns
 returns c = no-room _ _ _ _ (omega arith)
 
--- src/lib.rt:120:9
 sub-if2 : tie.Need-sub-if2
 sub-if2 c = search needs
 
--- src/lib.rt:121:9
 returns-2 : tie.Need-returns-2
 returns-2 c = no-room _ _ _ _ (omega arith)
 
--- src/lib.rt:123:5
 write-pairs-requires : tie.Need-write-pairs-requires
 write-pairs-requires c κs = search needs
 
--- src/lib.rt:124:10
 mul-result : tie.Need-mul-result
 mul-result c = search needs
 
--- src/lib.rt:124:5
 add-result : tie.Need-add-result
 add-result c = search needs
 
--- src/lib.rt:113:1
 same-length : tie.Need-same-length
 same-length c = search needs
 
--- src/lib.rt:113:1
 returns-3 : tie.Need-returns-3
 returns-3 c = with-room _ _ _ _ _ _ (omega arith) (omega (arith, digits-length (c .before .before .before .before .before .before .before .before .args .bytes .now))) (c .before .before .write-pairs .ensures)
 

@@ -1,14 +1,10 @@
 -- `calls::gather` is safe and ends. Assumes nothing.
-use Prim.Native.Nat.{ℕ, zero, suc, _+_, _*_, _-_, _≤_, _<_}
-use mathlib.Core.Path.{_≡_, refl, sym, ap, _∙_}
-use native.Mathlib.Omega.{arith}
-use lib.ListN.{length, getD, set}
+use Prim.Native.Nat.{_-_}
+use mathlib.Core.Path.{_≡_}
+use lib.ListN.{length}
 use borrow.Author.Needs.{needs}
 use Rattle.ask.proofs.calls.gather.Statement.{statement}
 use Rattle.ask.proofs.calls.gather.Tie as tie
-use Rattle.ask.proofs.calls.gather.Reads as reads
-use Rattle.ask.proofs.calls.gather.Lts as lts
-use Rattle.ask.proofs.calls.put_page.Reads as put-page-reads
 
 abbrev Inv-loop : tie.InvT-loop
 Inv-loop list₀ pages n₀ q₀ list n q = length list ≡ length list₀
@@ -16,39 +12,30 @@ Inv-loop list₀ pages n₀ q₀ list n q = length list ≡ length list₀
 abbrev μ-loop : tie.MeasureT-loop
 μ-loop list₀ pages n₀ q₀ list n q = 1024 - q
 
--- src/calls.rt:124:5
 loop-holds : tie.Need-loop-holds Inv-loop μ-loop
 loop-holds c = search needs
 
--- src/calls.rt:125:40
 cast-put-page : tie.Need-cast-put-page Inv-loop μ-loop
 cast-put-page c = search needs
 
--- src/calls.rt:125:34
 array-read-put-page : tie.Need-array-read-put-page Inv-loop μ-loop
 array-read-put-page c = search needs
 
--- src/calls.rt:125:9
 put-page-requires : tie.Need-put-page-requires Inv-loop μ-loop
 put-page-requires c κs = search needs
 
--- src/calls.rt:126:9
 add-q : tie.Need-add-q Inv-loop μ-loop
 add-q c = search needs
 
--- src/calls.rt:124:5
 loop-less : tie.Need-loop-less Inv-loop μ-loop
 loop-less c = search needs
 
--- src/calls.rt:124:5
 loop-again : tie.Need-loop-again Inv-loop μ-loop
 loop-again c = search needs
 
--- src/calls.rt:121:1
 same-length : tie.Need-same-length Inv-loop μ-loop
 same-length c = search needs
 
--- src/calls.rt:121:1
 returns : tie.Need-returns Inv-loop μ-loop
 returns c = search needs
 
