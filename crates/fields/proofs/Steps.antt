@@ -2,18 +2,18 @@
 use mathlib.Core.Bool.{Bool, true, false, _&&_}
 use mathlib.Core.List.{List, [], _∷_}
 use mathlib.Core.Path.{_≡_, refl, sym, ap, _∙_}
-use Prim.Native.Nat.{ℕ, suc, _+_, _-_, _*_, _≤_, _<_}
+use Prim.Native.Nat.{ℕ, zero, suc, _+_, _-_, _*_, _≤_, _<_}
 use native.Mathlib.Numerals.{add-one}
 use native.Mathlib.Omega.{arith}
 use borrow.Author.Tests.{le-leb, lt-leb, eq-eqb, ne-eqb}
 use lib.ListN.{length, getD, set, take, drop, drop-of-length-le}
-use lib.Seq.{drop-cons, length-take-le, set-split, take-all, take-suc}
+use lib.Seq.{drop-cons, drop-drop, length-take-le, set-split, take-all, take-suc}
 use Rattle.paging.specs.Sets.{_≤?_}
 use Rattle.words.specs.Words.{put}
 use Rattle.words.specs.Laws.{put-then}
 use Rattle.text.specs.Laws.{value-of}
 use Rattle.fields.specs.declared.Value.the-variants.{Is, Refused}
-use Rattle.fields.specs.Fields.{before, separators, all-decimal, number-from, number-of}
+use Rattle.fields.specs.Fields.{before, word-of, separators, all-decimal, number-from, number-of}
 
 -- ---- the loops that look for a separator, and count them
 
@@ -41,6 +41,51 @@ module _ (x : ℕ) (w : List ℕ) (i : ℕ) where
   pub none-left : length w ≤ i → separators x (drop i w) ≡ 0
   unfolding separators
   none-left l = rw (drop-of-length-le w {i = i} l)
+
+-- ---- the loop that passes over words
+
+word-none : (n : ℕ) → word-of n [] ≡ []
+unfolding word-of before
+word-none zero = refl
+word-none (suc n) = word-none n
+
+module _ (line : List ℕ) (from end : ℕ) (e : end ≡ from + before 32 (drop from line)) where
+  word-later : (n : ℕ) → word-of (suc n) (drop from line) ≡ word-of n (drop (end + 1) line)
+  unfolding word-of
+  word-later n =
+      let next : from + suc (before 32 (drop from line)) ≡ end + 1 = omega arith in
+      rw (drop-drop, next)
+
+  pub word-here : take (end - from) (drop from line) ≡ word-of 0 (drop from line)
+  unfolding word-of
+  word-here =
+      let size : end - from ≡ before 32 (drop from line) = omega arith in
+      rw size
+
+  pub word-next : (left : ℕ) → 0 < left → word-of (left - 1) (drop (end + 1) line) ≡ word-of left (drop from line)
+  word-next zero l = absurd (omega arith)
+  word-next (suc n) l =
+      let less : suc n - 1 ≡ n = omega arith in
+      rw less (sym (word-later n))
+
+  pub word-past : (left : ℕ) → 0 < left → length line ≤ end → word-of 0 (drop (length line) line) ≡ word-of left (drop from line)
+  word-past zero l h = absurd (omega arith)
+  word-past (suc n) l h =
+      let past : length line ≤ end + 1 = omega arith in
+      let all : length line ≤ length line = omega arith in
+      ap (word-of 0) (drop-of-length-le line {i = length line} all)
+      ∙ word-none 0
+      ∙ sym (word-later n ∙ ap (word-of n) (drop-of-length-le line {i = end + 1} past) ∙ word-none n)
+
+-- ---- the first entries of a slice
+
+pub first-all : (l : List ℕ) (n : ℕ) → length l < n → l ≡ take n l
+first-all l n h = sym (take-all n l (omega arith))
+
+pub first-some : (l : List ℕ) (n : ℕ) → take (n - 0) (drop 0 l) ≡ take n l
+first-some l n =
+    let size : n - 0 ≡ n = omega arith in
+    rw size
 
 -- ---- the loop that reads a number
 

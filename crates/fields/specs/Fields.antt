@@ -1,7 +1,8 @@
 -- The words of a line and the numbers that they stand for. Assumes nothing.
 use mathlib.Core.Bool.{Bool, true, _&&_}
 use mathlib.Core.List.{List, [], _∷_}
-use Prim.Native.Nat.{ℕ, suc, _+_}
+use Prim.Native.Nat.{ℕ, zero, suc, _+_}
+use lib.ListN.{take, drop}
 use Rattle.paging.specs.Sets.{_=?_, _≤?_, if_then_else_, bit}
 use Rattle.text.specs.Laws.{value-of}
 use Rattle.fields.specs.declared.Value.{Value}
@@ -11,6 +12,11 @@ use Rattle.fields.specs.declared.Value.the-variants.{Is, Refused}
 unfoldable pub before : ℕ → List ℕ → ℕ
 before x [] = 0
 before x (c ∷ cs) = if c =? x then 0 else suc (before x cs)
+
+-- A word of a line, the first being word 0: what stands before the next space. Past the last word there is the empty one.
+unfoldable pub word-of : ℕ → List ℕ → List ℕ
+word-of zero line = take (before 32 line) line
+word-of (suc n) line = word-of n (drop (suc (before 32 line)) line)
 
 -- How many separators there are.
 unfoldable pub separators : ℕ → List ℕ → ℕ

@@ -1,11 +1,11 @@
 // The words of a line, read and written: numbers, lists of numbers, bytes in hexadecimal. Assumes nothing.
 ghost use mathlib.Core.Path.{_≡_};
 ghost use Prim.Native.Nat.{suc, _+_, _-_, _≤_};
-ghost use lib.ListN.{length, drop};
+ghost use lib.ListN.{length, take, drop};
 ghost use Rattle.words.specs.Words.{put};
 ghost use Rattle.hex.specs.Room.{placed, behind};
 ghost use Rattle.text.specs.Text.{decimal};
-ghost use Rattle.fields.specs.Fields.{before, separators, number-of};
+ghost use Rattle.fields.specs.Fields.{before, word-of, separators, number-of};
 use hex::Count;
 
 // A number that a word stands for.
@@ -46,7 +46,8 @@ pub fn words_in(line: &[u8]) -> usize
 
 // Where a word begins, the first being word 0; the end of the line for a word past the last.
 fn start_of(line: &[u8], index: usize) -> usize
-    ensures { λ r. ⌜ r ≤ length (now (line .entry)) ⌝ }
+    ensures place { λ r. ⌜ word-of 0 (drop r (now (line .entry))) ≡ word-of index (now (line .entry)) ⌝ }
+    ensures within { λ r. ⌜ r ≤ length (now (line .entry)) ⌝ }
 {
     let mut from = 0;
     let mut left = index;
@@ -62,14 +63,18 @@ fn start_of(line: &[u8], index: usize) -> usize
 }
 
 // A word of a line, the first being word 0. It is empty between two spaces, and past the last word.
-pub fn word(line: &[u8], index: usize) -> &[u8] {
+pub fn word(line: &[u8], index: usize) -> &[u8]
+    ensures { λ r. ⌜ now r ≡ word-of index (now (line .entry)) ⌝ }
+{
     let from = start_of(line, index);
     let end = end_of(line, from, b' ');
     &line[from..end]
 }
 
 // The first bytes of a slice, or all of it where it is shorter.
-pub fn first(bytes: &[u8], count: usize) -> &[u8] {
+pub fn first(bytes: &[u8], count: usize) -> &[u8]
+    ensures { λ r. ⌜ now r ≡ take count (now (bytes .entry)) ⌝ }
+{
     if bytes.len() < count {
         return bytes;
     }
@@ -78,7 +83,9 @@ pub fn first(bytes: &[u8], count: usize) -> &[u8] {
 }
 
 // The same of numbers.
-pub fn first_numbers(numbers: &[u16], count: usize) -> &[u16] {
+pub fn first_numbers(numbers: &[u16], count: usize) -> &[u16]
+    ensures { λ r. ⌜ now r ≡ take count (now (numbers .entry)) ⌝ }
+{
     if numbers.len() < count {
         return numbers;
     }
