@@ -396,7 +396,7 @@ impl Run {
     }
 
     // The run in an image whose length and header are right.
-    fn in_image(image: &[u8]) -> Self
+    pub fn in_image(image: &[u8]) -> Self
         requires { ⌜ image-refusal (now image) ≡ 0 ⌝ }
         ensures { λ r. ⌜ r ≡ image-run (now (image .entry)) ⌝ }
     {

@@ -1,0 +1,416 @@
+// Answers the questions on standard input, one to a line, each with one line on standard output. Assumes nothing of what it
+// reads; that reading and writing go well is libc's to say.
+mod answers;
+mod asked;
+mod calls;
+
+ghost use mathlib.Core.Path.{_≡_};
+ghost use Prim.Native.Nat.{_<_};
+ghost use lib.ListN.{length};
+
+// A longer line is answered `bad line`.
+const LONGEST: usize = 262144;
+
+// Room for the longest answer, which repeats a buffer of the line behind two numbers.
+const ROOM: usize = 263000;
+
+// How much is kept, bytes of the line that has begun and bytes of answers, and whether there may be more to read.
+struct Kept {
+    held: usize,
+    at: usize,
+    more: bool,
+}
+
+// The questions of two words.
+fn of_two(line: &[u8], bytes: &mut [u8], list: &mut [u16], out: &mut [u8], at: usize) -> usize {
+    let kind = fields::word(line, 0);
+    if check::same(kind, b"sound") {
+        return calls::sound(line, bytes, out, at);
+    }
+    if check::same(kind, b"selection") {
+        return calls::selection(line, bytes, list, out, at);
+    }
+    if check::same(kind, b"readtrace") {
+        return calls::readtrace(line, bytes, out, at);
+    }
+    if check::same(kind, b"readimage") {
+        return calls::readimage(line, bytes, out, at);
+    }
+    answers::bad(out, at)
+}
+
+// The questions of three words.
+fn of_three(line: &[u8], record: &mut [u8], bytes: &mut [u8], out: &mut [u8], at: usize) -> usize {
+    let kind = fields::word(line, 0);
+    if check::same(kind, b"request") {
+        return calls::request(line, record, out, at);
+    }
+    if check::same(kind, b"trial") {
+        return calls::trial(line, record, out, at);
+    }
+    if check::same(kind, b"layer") {
+        return calls::layer(line, record, out, at);
+    }
+    if check::same(kind, b"certain") {
+        return calls::certain(line, record, out, at);
+    }
+    if check::same(kind, b"writeimage") {
+        return calls::writeimage(line, record, bytes, out, at);
+    }
+    if check::same(kind, b"board") {
+        return calls::serve_board(line, bytes, out, at);
+    }
+    answers::bad(out, at)
+}
+
+// The questions of four words and more.
+fn of_more(
+    line: &[u8],
+    words: usize,
+    record: &mut [u8],
+    area: &mut [u8],
+    bytes: &mut [u8],
+    list: &mut [u16],
+    priorities: &mut [u16],
+    requests: &mut [u16],
+    out: &mut [u8],
+    at: usize,
+) -> usize {
+    let kind = fields::word(line, 0);
+    if words == 4 {
+        if check::same(kind, b"look") {
+            return calls::look(line, record, area, out, at);
+        }
+        return answers::bad(out, at);
+    }
+    if words == 7 {
+        if check::same(kind, b"writetrace") {
+            return calls::writetrace(line, list, priorities, requests, bytes, out, at);
+        }
+        return answers::bad(out, at);
+    }
+    if words == 5 {
+        if check::same(kind, b"start") {
+            return calls::start(line, list, priorities, bytes, out, at);
+        }
+        if check::same(kind, b"fill") {
+            return calls::fill(line, record, area, bytes, out, at);
+        }
+    }
+    answers::bad(out, at)
+}
+
+// The answer of a line, without its end.
+fn answer(
+    line: &[u8],
+    record: &mut [u8],
+    area: &mut [u8],
+    bytes: &mut [u8],
+    list: &mut [u16],
+    priorities: &mut [u16],
+    requests: &mut [u16],
+    out: &mut [u8],
+    at: usize,
+) -> usize {
+    let words = fields::words_in(line);
+    if words == 2 {
+        return of_two(line, record, list, out, at);
+    }
+    if words == 3 {
+        return of_three(line, record, bytes, out, at);
+    }
+    of_more(
+        line,
+        words,
+        record,
+        area,
+        bytes,
+        list,
+        priorities,
+        requests,
+        out,
+        at,
+    )
+}
+
+// Writes the answers out where little room is left behind them, and answers how many bytes of them are kept.
+fn spare(out: &[u8], at: usize) -> usize {
+    if at < out.len() {
+        if ROOM <= out.len() - at {
+            return at;
+        }
+    }
+    io::write_all(1, fields::first(out, at));
+    0
+}
+
+// Answers the line of which some bytes are held. One byte more than the longest line stands for any longer one.
+fn answer_held(
+    line: &[u8],
+    held: usize,
+    record: &mut [u8],
+    area: &mut [u8],
+    bytes: &mut [u8],
+    list: &mut [u16],
+    priorities: &mut [u16],
+    requests: &mut [u16],
+    out: &mut [u8],
+    at: usize,
+) -> usize {
+    if LONGEST < held {
+        let end = answers::bad(out, at);
+        let next = fields::write_word(out, end, b"\n");
+        return spare(out, next);
+    }
+    let end = answer(
+        fields::first(line, held),
+        record,
+        area,
+        bytes,
+        list,
+        priorities,
+        requests,
+        out,
+        at,
+    );
+    let next = fields::write_word(out, end, b"\n");
+    spare(out, next)
+}
+
+// Puts a part of a line behind what is held of it, as far as the buffer goes, and answers how much is held.
+fn hold(line: &mut [u8], held: usize, part: &[u8]) -> usize {
+    let mut n = held;
+    let mut i = 0;
+    while i < part.len() {
+        if line.len() <= n {
+            return n;
+        }
+        line[n] = part[i];
+        n += 1;
+        i += 1;
+    }
+    n
+}
+
+// Answers the lines that end in a piece of the input, and holds the one that begins there.
+fn take(
+    piece: &[u8],
+    kept: Kept,
+    line: &mut [u8],
+    record: &mut [u8],
+    area: &mut [u8],
+    bytes: &mut [u8],
+    list: &mut [u16],
+    priorities: &mut [u16],
+    requests: &mut [u16],
+    out: &mut [u8],
+) -> Kept {
+    let mut held = kept.held;
+    let mut at = kept.at;
+    let mut from = 0;
+    while from < piece.len() {
+        let end = fields::end_of(piece, from, b'\n');
+        held = hold(line, held, &piece[from..end]);
+        if piece.len() <= end {
+            return Kept {
+                held,
+                at,
+                more: true,
+            };
+        }
+        from = end + 1;
+        at = answer_held(
+            line,
+            held,
+            record,
+            area,
+            bytes,
+            list,
+            priorities,
+            requests,
+            out,
+            at,
+        );
+        held = 0;
+    }
+    Kept {
+        held,
+        at,
+        more: true,
+    }
+}
+
+// Reads a piece of the input and answers the lines that end in it. A read that fails ends the input.
+fn read_some(
+    piece: &mut [u8],
+    kept: Kept,
+    line: &mut [u8],
+    record: &mut [u8],
+    area: &mut [u8],
+    bytes: &mut [u8],
+    list: &mut [u16],
+    priorities: &mut [u16],
+    requests: &mut [u16],
+    out: &mut [u8],
+) -> Kept {
+    let got = libc::read(0, piece);
+    if got <= 0 {
+        return Kept {
+            held: kept.held,
+            at: kept.at,
+            more: false,
+        };
+    }
+    let n = io::count(got, piece);
+    take(
+        fields::first(piece, n),
+        kept,
+        line,
+        record,
+        area,
+        bytes,
+        list,
+        priorities,
+        requests,
+        out,
+    )
+}
+
+// Answers a last line that has no end, and writes out what answers are kept.
+fn finish(
+    kept: Kept,
+    line: &[u8],
+    record: &mut [u8],
+    area: &mut [u8],
+    bytes: &mut [u8],
+    list: &mut [u16],
+    priorities: &mut [u16],
+    requests: &mut [u16],
+    out: &mut [u8],
+) {
+    let held = kept.held;
+    let at = kept.at;
+    if held == 0 {
+        io::write_all(1, fields::first(out, at));
+        return;
+    }
+    let end = answer_held(
+        line,
+        held,
+        record,
+        area,
+        bytes,
+        list,
+        priorities,
+        requests,
+        out,
+        at,
+    );
+    io::write_all(1, fields::first(out, end));
+}
+
+// How many turns are left after one.
+fn left(turns: u64, more: bool) -> u64
+    requires { ⌜ 0 < turns ⌝ }
+    ensures { λ r. ⌜ r < turns ⌝ }
+{
+    if more { turns - 1 } else { 0 }
+}
+
+// Answers every line that has an end. Nothing says that an input ends, so the pieces are counted down from a number that none has.
+fn answer_all(
+    piece: &mut [u8],
+    line: &mut [u8],
+    record: &mut [u8],
+    area: &mut [u8],
+    bytes: &mut [u8],
+    list: &mut [u16],
+    priorities: &mut [u16],
+    requests: &mut [u16],
+    out: &mut [u8],
+) -> Kept {
+    let mut kept = Kept {
+        held: 0,
+        at: 0,
+        more: true,
+    };
+    let mut turns = u64::MAX;
+    while turns > 0 {
+        kept = read_some(
+            piece,
+            kept,
+            line,
+            record,
+            area,
+            bytes,
+            list,
+            priorities,
+            requests,
+            out,
+        );
+        turns = left(turns, kept.more);
+    }
+    kept
+}
+
+// One byte more than the longest line.
+fn line_buffer() -> [u8; 262145]
+    ensures { λ r. ⌜ 262145 ≡ length r ⌝ }
+{
+    [0; 262145]
+}
+
+// Room for the bytes in any word of a line.
+fn byte_buffer() -> [u8; 131072]
+    ensures { λ r. ⌜ 131072 ≡ length r ⌝ }
+{
+    [0; 131072]
+}
+
+// Room for the numbers in any word of a line.
+fn number_buffer() -> [u16; 131072]
+    ensures { λ r. ⌜ 131072 ≡ length r ⌝ }
+{
+    [0; 131072]
+}
+
+// Room for the longest answer behind many others.
+fn out_buffer() -> [u8; 600000]
+    ensures { λ r. ⌜ 600000 ≡ length r ⌝ }
+{
+    [0; 600000]
+}
+
+fn main() {
+    let mut piece = io::large_buffer();
+    let mut line = line_buffer();
+    let mut record = byte_buffer();
+    let mut area = byte_buffer();
+    let mut bytes = byte_buffer();
+    let mut list = number_buffer();
+    let mut priorities = number_buffer();
+    let mut requests = number_buffer();
+    let mut out = out_buffer();
+    let kept = answer_all(
+        &mut piece,
+        &mut line,
+        &mut record,
+        &mut area,
+        &mut bytes,
+        &mut list,
+        &mut priorities,
+        &mut requests,
+        &mut out,
+    );
+    finish(
+        kept,
+        &line,
+        &mut record,
+        &mut area,
+        &mut bytes,
+        &mut list,
+        &mut priorities,
+        &mut requests,
+        &mut out,
+    );
+}

@@ -1,0 +1,62 @@
+-- `hex::are_digits` meets its contract. The loop's invariant: what is left of the word decides. Assumes nothing.
+use Prim.Native.Nat.{_-_, _≤_}
+use mathlib.Core.Path.{_≡_, refl, sym, _∙_}
+use native.Mathlib.Omega.{arith}
+use lib.ListN.{length}
+use borrow.Author.Needs.{needs}
+use lib.ListN.{drop}
+use Rattle.hex.specs.Hex.{all-digits}
+use Rattle.hex.proofs.Steps.{digits-more, digits-fail, digits-end}
+use Rattle.hex.proofs.are_digits.Statement.{statement}
+use Rattle.hex.proofs.are_digits.Tie as tie
+
+abbrev Inv-loop : tie.InvT-loop
+Inv-loop word i₀ i = (i ≤ length word) × (all-digits word ≡ all-digits (drop i word))
+
+abbrev μ-loop : tie.MeasureT-loop
+μ-loop word i₀ i = length word - i
+
+loop-holds : tie.Need-loop-holds Inv-loop μ-loop
+loop-holds c = (search needs, refl)
+
+shared-slice-read-value : tie.Need-shared-slice-read-value Inv-loop μ-loop
+shared-slice-read-value c = search needs
+
+value-requires : tie.Need-value-requires Inv-loop μ-loop
+value-requires c κs = search needs
+
+returns : tie.Need-returns Inv-loop μ-loop
+returns c =
+    let l = c .before .before .before .before .loop in
+    sym (l .inv .1 ∙ digits-fail _ (l .i) (search needs) (omega arith))
+
+add-i : tie.Need-add-i Inv-loop μ-loop
+add-i c = search needs
+
+loop-less : tie.Need-loop-less Inv-loop μ-loop
+loop-less c = search needs
+
+loop-again : tie.Need-loop-again Inv-loop μ-loop
+loop-again c =
+    let l = c .before .before .before .before .loop in
+    (search needs, l .inv .1 ∙ digits-more _ (l .i) (search needs) (omega arith))
+
+returns-2 : tie.Need-returns-2 Inv-loop μ-loop
+returns-2 c =
+    let l = c .before .loop in
+    sym (l .inv .1 ∙ digits-end _ (l .i) (search needs))
+
+pub are-digits-spec : {M : Type 1} → statement M
+are-digits-spec =
+    tie.close
+    (tie.spec
+    Inv-loop
+    μ-loop
+    loop-holds
+    shared-slice-read-value
+    value-requires
+    returns
+    add-i
+    loop-less
+    loop-again
+    returns-2)

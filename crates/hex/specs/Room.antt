@@ -1,0 +1,13 @@
+-- Text put into a buffer at an offset where it has room, and the offset behind it. Assumes nothing.
+use mathlib.Core.List.{List}
+use Prim.Native.Nat.{ℕ, _+_}
+use lib.ListN.{length}
+use Rattle.paging.specs.Sets.{_≤?_, if_then_else_}
+use Rattle.words.specs.Words.{put}
+
+-- A writer asks for some room, which is at least what its text takes. Without it the buffer stays as it was.
+unfoldable pub placed : ℕ → List ℕ → ℕ → List ℕ → List ℕ
+placed room s at text = if at + room ≤? length s then put s at text else s
+
+unfoldable pub behind : ℕ → List ℕ → ℕ → List ℕ → ℕ
+behind room s at text = if at + room ≤? length s then at + length text else at
