@@ -34,6 +34,13 @@ pub struct Wanted {
     pub size: usize,
 }
 
+// What a fill is handed besides a page: the sizes of the area and of the page's bytes.
+pub struct Parts {
+    pub good: bool,
+    pub size: usize,
+    pub given: usize,
+}
+
 // A number below 2^32, wide enough for every call.
 pub fn read_number(word: &[u8]) -> Value {
     fields::number(word, 4294967295)
@@ -180,6 +187,31 @@ pub fn read_wanted(line: &[u8], requests: &mut [u16], buffer: &mut [u8]) -> Want
             good: false,
             requests: 0,
             size: 0,
+        },
+    }
+}
+
+// The area and the bytes of a fill, behind its page.
+pub fn read_parts(line: &[u8], area: &mut [u8], bytes: &mut [u8]) -> Parts {
+    let third = fields::bytes(fields::word(line, 3), area);
+    let fourth = fields::bytes(fields::word(line, 4), bytes);
+    let Count::Of(size) = third else {
+        return Parts {
+            good: false,
+            size: 0,
+            given: 0,
+        };
+    };
+    match fourth {
+        Count::Of(given) => Parts {
+            good: true,
+            size,
+            given,
+        },
+        Count::Refused => Parts {
+            good: false,
+            size: 0,
+            given: 0,
         },
     }
 }

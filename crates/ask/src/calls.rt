@@ -2,6 +2,8 @@
 use crate::answers;
 use crate::asked;
 use crate::asked::Begun;
+use crate::asked::Paged;
+use crate::asked::Parts;
 use crate::asked::Wanted;
 use fields::Value;
 use hex::Count;
@@ -177,6 +179,29 @@ fn filled(
     answers::then_bytes(out, next, area)
 }
 
+// The same over what was read: the first bytes of both buffers.
+fn fill_parts(
+    paged: Paged,
+    parts: Parts,
+    area: &mut [u8],
+    bytes: &[u8],
+    out: &mut [u8],
+    at: usize,
+) -> usize {
+    let size = parts.size;
+    if area.len() < size {
+        return answers::bad(out, at);
+    }
+    filled(
+        paged.run,
+        paged.page,
+        &mut area[0..size],
+        fields::first(bytes, parts.given),
+        out,
+        at,
+    )
+}
+
 // fill RECORD PAGE AREA BYTES
 pub fn fill(
     line: &[u8],
@@ -190,25 +215,11 @@ pub fn fill(
     if !paged.good {
         return answers::bad(out, at);
     }
-    let third = fields::bytes(fields::word(line, 3), area);
-    let Count::Of(size) = third else {
-        return answers::bad(out, at);
-    };
-    let fourth = fields::bytes(fields::word(line, 4), bytes);
-    let Count::Of(given) = fourth else {
-        return answers::bad(out, at);
-    };
-    if area.len() < size {
+    let parts = asked::read_parts(line, area, bytes);
+    if !parts.good {
         return answers::bad(out, at);
     }
-    filled(
-        paged.run,
-        paged.page,
-        &mut area[0..size],
-        fields::first(bytes, given),
-        out,
-        at,
-    )
+    fill_parts(paged, parts, area, bytes, out, at)
 }
 
 // look RECORD PAGE AREA

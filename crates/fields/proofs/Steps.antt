@@ -8,12 +8,18 @@ use native.Mathlib.Omega.{arith}
 use borrow.Author.Tests.{le-leb, lt-leb, eq-eqb, ne-eqb}
 use lib.ListN.{length, getD, set, take, drop, drop-of-length-le}
 use lib.Seq.{drop-cons, drop-drop, length-take-le, set-split, take-all, take-suc}
-use Rattle.paging.specs.Sets.{_≤?_}
+use Rattle.paging.specs.Sets.{_≤?_, _=?_}
 use Rattle.words.specs.Words.{put}
 use Rattle.words.specs.Laws.{put-then}
 use Rattle.text.specs.Laws.{value-of}
+use Rattle.hex.specs.declared.Count.{Count}
+use Rattle.hex.specs.declared.Count.the-variants.{Of}
+use Rattle.hex.specs.declared.Count.the-variants as counts
+use Rattle.hex.specs.Hex.{digits, count-read, bytes-read}
+use Rattle.hex.specs.Room.{placed, behind}
+use Rattle.hex.specs.Laws.{digits-length}
 use Rattle.fields.specs.declared.Value.the-variants.{Is, Refused}
-use Rattle.fields.specs.Fields.{before, word-of, separators, all-decimal, number-from, number-of}
+use Rattle.fields.specs.Fields.{before, word-of, separators, all-decimal, number-from, number-of, none-word, bytes-count, bytes-after, bytes-word}
 
 -- ---- the loops that look for a separator, and count them
 
@@ -152,3 +158,55 @@ module _ (s : List ℕ) (at : ℕ) (word : List ℕ) where
 
   pub copy-all : (i : ℕ) (t : List ℕ) → length word ≤ i → t ≡ put s at (take i word) → t ≡ put s at word
   copy-all i t l p = p ∙ rw (take-all i word l)
+
+-- ---- bytes, or none
+
+module _ (w : List ℕ) where
+  pub none-longer : (length w ≡ 1 → ⊥) → none-word w ≡ false
+  unfolding none-word
+  none-longer n = rw (ne-eqb (length w) 1 n)
+
+  pub none-one : length w ≡ 1 → none-word w ≡ getD w 0 0 =? 45
+  unfolding none-word
+  none-one e = rw (eq-eqb (length w) 1 e)
+
+module _ (w s : List ℕ) where
+  pub bytes-none : none-word w ≡ true → (Of 0 ≡ bytes-count w s) × (s ≡ bytes-after w s)
+  unfolding bytes-count bytes-after
+  bytes-none e = (rw e, rw e)
+
+  pub bytes-empty : none-word w ≡ false → length w ≡ 0 → (counts.Refused ≡ bytes-count w s) × (s ≡ bytes-after w s)
+  unfolding bytes-count bytes-after
+  bytes-empty e z = (rw (e, eq-eqb (length w) 0 z), rw (e, eq-eqb (length w) 0 z))
+
+  pub bytes-some :
+      (r : Count) (last : List ℕ) →
+      none-word w ≡ false →
+      (length w ≡ 0 → ⊥) →
+      (r ≡ count-read w s) × (last ≡ bytes-read w s) →
+      (r ≡ bytes-count w s) × (last ≡ bytes-after w s)
+  unfolding bytes-count bytes-after
+  bytes-some r last e n p = (rw (e, ne-eqb (length w) 0 n) (p .0), rw (e, ne-eqb (length w) 0 n) (p .1))
+
+word-empty : (bs : List ℕ) → length bs ≡ 0 → bytes-word bs ≡ 45 ∷ []
+unfolding bytes-word
+word-empty [] e = refl
+word-empty (b ∷ bs) e = absurd (omega arith)
+
+word-some : (bs : List ℕ) → (length bs ≡ 0 → ⊥) → bytes-word bs ≡ digits bs
+unfolding bytes-word
+word-some [] n = absurd (n refl)
+word-some (b ∷ bs) n = refl
+
+module _ (bs s : List ℕ) (at r : ℕ) (last : List ℕ) where
+  pub none-told :
+      length bs ≡ 0 →
+      (r ≡ behind 1 s at (45 ∷ [])) × (last ≡ placed 1 s at (45 ∷ [])) →
+      (r ≡ behind (length (bytes-word bs)) s at (bytes-word bs)) × (last ≡ placed (length (bytes-word bs)) s at (bytes-word bs))
+  none-told e p = rw (word-empty bs e) p
+
+  pub some-told :
+      (length bs ≡ 0 → ⊥) →
+      (r ≡ behind (2 * length bs) s at (digits bs)) × (last ≡ placed (2 * length bs) s at (digits bs)) →
+      (r ≡ behind (length (bytes-word bs)) s at (bytes-word bs)) × (last ≡ placed (length (bytes-word bs)) s at (bytes-word bs))
+  some-told n p = rw (word-some bs n, digits-length bs) p

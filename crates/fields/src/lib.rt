@@ -6,6 +6,7 @@ ghost use Rattle.words.specs.Words.{put};
 ghost use Rattle.hex.specs.Room.{placed, behind};
 ghost use Rattle.text.specs.Text.{decimal};
 ghost use Rattle.fields.specs.Fields.{before, word-of, separators, number-of};
+ghost use Rattle.fields.specs.Fields.{none-word, bytes-count, bytes-after, bytes-word};
 use hex::Count;
 
 // A number that a word stands for.
@@ -121,8 +122,13 @@ pub fn number(word: &[u8], most: u32) -> Value
 }
 
 // Whether a word is the one that stands for nothing at all.
-fn is_none(word: &[u8]) -> bool {
-    check::same(word, b"-")
+fn is_none(word: &[u8]) -> bool
+    ensures { λ r. ⌜ r ≡ none-word (now (word .entry)) ⌝ }
+{
+    if word.len() != 1 {
+        return false;
+    }
+    word[0] == b'-'
 }
 
 // Reads a list of 16-bit numbers, parted by single commas, into a buffer. What is no list, or has no room, is refused.
@@ -149,7 +155,10 @@ pub fn list(word: &[u8], out: &mut [u16]) -> Count {
 }
 
 // Reads bytes in hexadecimal into a buffer. What is not that, or has no room, is refused.
-pub fn bytes(word: &[u8], out: &mut [u8]) -> Count {
+pub fn bytes(word: &[u8], out: &mut [u8]) -> Count
+    ensures count { λ r. ⌜ r ≡ bytes-count (now (word .entry)) (now (out .entry)) ⌝ }
+    ensures bytes { λ _. ⌜ now (out .exit) ≡ bytes-after (now (word .entry)) (now (out .entry)) ⌝ }
+{
     if is_none(word) {
         return Count::Of(0);
     }
@@ -220,7 +229,10 @@ pub fn write_list(out: &mut [u8], at: usize, list: &[u16]) -> usize {
 }
 
 // Writes bytes in hexadecimal at an offset, and answers the offset behind them.
-pub fn write_bytes(out: &mut [u8], at: usize, bytes: &[u8]) -> usize {
+pub fn write_bytes(out: &mut [u8], at: usize, bytes: &[u8]) -> usize
+    ensures offset { λ r. ⌜ r ≡ behind (length (bytes-word (now (bytes .entry)))) (now (out .entry)) at (bytes-word (now (bytes .entry))) ⌝ }
+    ensures text { λ _. ⌜ now (out .exit) ≡ placed (length (bytes-word (now (bytes .entry)))) (now (out .entry)) at (bytes-word (now (bytes .entry))) ⌝ }
+{
     if bytes.len() == 0 {
         return write_word(out, at, b"-");
     }
