@@ -31,24 +31,42 @@ fn write_lines<'a>(
     ensures offset { λ r. ⌜ r ≡ at + length (lines start (asked (now (file .entry)) offset requests)) ⌝ }
     ensures text { λ _. ⌜ now (out .exit) ≡ put (now (out .entry)) at (lines start (asked (now (file .entry)) offset requests)) ⌝ }
 {
-    let mut run = start;
+    let pages = start.pages;
+    let slots = start.slots;
+    let k = (slots % 256) as u8;
+    let priority = start.priority;
+    let mut layer = start.layer;
+    let mut held = start.held;
+    let mut near = slots::nears(&layer, &held, slots);
+    let mut keys = slots::keys(&priority, &held, slots);
+    let mut counts = replay::first_counts(start);
     let mut next = at;
     let mut i = 0;
     while i < requests {
         let page = trace::request_at(file, offset, i);
-        let served = run.request_of_sound(page as usize);
-        let event = served.event;
-        next = text::write_line(out, next, page as u64, event, served.best as u64);
-        run = served.run;
+        let turn = replay::ask(
+            &mut layer,
+            &priority,
+            &mut held,
+            &mut near,
+            &mut keys,
+            pages,
+            k,
+            page,
+            counts,
+        );
+        let event = turn.event;
+        next = text::write_line(out, next, page as u64, event, turn.best as u64);
+        counts = turn.counts;
         i += 1;
     }
     text::write_last_line(
         out,
         next,
-        run.served as u64,
-        run.hits as u64,
-        run.misses as u64,
-        run.best as u64,
+        counts.served as u64,
+        counts.hits as u64,
+        counts.misses as u64,
+        counts.best as u64,
     )
 }
 

@@ -104,6 +104,9 @@ request-long r p w long = ⊎-elim past below (le-or-lt (r .pages) p)
             subst Long (sym (i .run)) (counted-long r p 0 1 (set (r .held) (slot-of r v) p) (w .pages .1) (length-set (r .held) (slot-of r v) p ∙ long .slots)))
             (hit-or-miss r w p l h)
 
+pub long-next : (r : Run) (p : ℕ) (s : Served) → s ≡ requested r p → Sound r → Long r → Long (s .run)
+long-next r p s e w long = rw e (request-long r p w long)
+
 -- ---- a loop of turns
 
 -- Before request i of qs: the run in hand is sound, and what is left of the requests makes of it what all make of the start.
