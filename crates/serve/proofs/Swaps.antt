@@ -17,7 +17,7 @@ use Rattle.slots.specs.Laws.{seat-found, seat-some, seat-none, near-length}
 use Rattle.serve.specs.declared.Event.the-variants.{Hit, Miss}
 use Rattle.serve.specs.Step.{Ready, Stepped, victim-in, least-page, search-to}
 use Rattle.serve.specs.Searches.{victim-seated}
-use Rattle.serve.specs.Steps.{victim-found-by-slots, victim-is-there, hit-stepped, miss-stepped}
+use Rattle.serve.specs.Steps.{victim-found-by-slots, victim-is-there, hit-stepped, top-stepped, miss-stepped}
 use Rattle.serve.proofs.Victims.{found-at, found-none}
 
 -- the tables at the call
@@ -120,3 +120,15 @@ pub stayed :
     Stepped N k p layer priority held (Hit s) layer′ held near′ keys
 stayed {N} {k} {p} {layer} {priority} {held} w en ek s layer′ near′ h el e =
     rw (ek, el, e, en) (hit-stepped N k p layer priority held w s (found-at (seat held k p) s h))
+
+pub unmoved :
+    {N k p : ℕ} {layer priority held near keys : List ℕ} →
+    Ready N k p layer priority held →
+    near ≡ near-of layer held k →
+    keys ≡ keys-of priority held k →
+    (s : ℕ) →
+    At s ≡ found (seat held k p) →
+    layer-at layer p ≡ k →
+    Stepped N k p layer priority held (Hit s) layer held near keys
+unmoved {N} {k} {p} {layer} {priority} {held} w en ek s h top =
+    rw (ek, en) (top-stepped N k p layer priority held w s (found-at (seat held k p) s h) top)

@@ -4,20 +4,23 @@ use mathlib.Core.List.{List}
 use mathlib.Core.Logic.{⊎-elim}
 use mathlib.Core.Option.{Option, some, Option·getD}
 use mathlib.Core.Path.{Path, _≡_, refl, sym, ap, _∙_}
-use Prim.Native.Nat.{ℕ, _≤_}
+use Prim.Native.Nat.{ℕ, _≤_, _<_}
 use native.Mathlib.Omega.{arith}
 use lib.Dec.{eqb}
-use lib.ListN.{getD, set}
-use lib.Seq.{getD-set-same, getD-set-other}
-use borrow.Author.Tests.{eqb-true, eqb-false}
+use lib.ListN.{length, getD, set}
+use lib.Seq.{getD-set-same, getD-set-other, ext-getD}
+use borrow.Author.Tests.{eqb-true, eqb-false, eq-eqb, ne-eqb, le-ltb}
 use Rattle.serve.specs.declared.Event.the-variants.{Hit, Miss}
-use Rattle.paging.specs.Tests.{truth, clash, is, positive}
+use Rattle.paging.specs.Tests.{truth, clash, is, positive, same-or-not, le-or-lt}
+use Rattle.paging.specs.Count.{single, single-inside, count-single, count-less}
+use Rattle.paging.specs.Layers.{in-layer, asked-known, next}
 use Rattle.paging.specs.Moves.{bar}
 use Rattle.paging.specs.Certificate.{held}
 use Rattle.paging.specs.Theorems.{miss-victim}
 use Rattle.ranking.specs.Order.{outranks-ranking}
 use Rattle.ranking.specs.Key.{key-of}
 use Rattle.layers.specs.Asked.{layer-at, asked, sunk}
+use Rattle.layers.specs.Laws.{asked-length, asked-at, asked-past}
 use Rattle.slots.specs.Slots.{no-page, seated, seat, found, near-of, keys-of}
 use Rattle.slots.specs.Laws.{seated-in, seat-some}
 use Rattle.serve.specs.Step.{by, slot, Ready, victim-in, missed, replaced, event-of, held-after, least-page, search-to}
@@ -93,6 +96,44 @@ module _ (N k p : ℕ) (layer priority held : List ℕ) (w : Ready N k p layer p
         near-is =
             near-after N k p layer priority held w held s l at
             (λ t lt ne. (refl, λ same. ne (w .one t s lt l (same ∙ sym at))));
+        keys-is = refl;
+        long = w .long .0;
+      }
+
+  -- a hit of the page of L_k, which is alone there: nothing moves
+  top-stays : L p ≡ k → (q : ℕ) → q < N → next k p L q ≡ L q
+  unfolding next asked-known
+  top-stays top q l = rw (top, ne-eqb k 0 (λ z. omega (arith, w .slots .0))) (⊎-elim here other (same-or-not q p))
+    where
+      here : q ≡ p → asked-known k k p L q ≡ L q
+      here e = rw (eq-eqb q p e) (sym (ap L e ∙ top))
+
+      lower : (q ≡ p → ⊥) → L q ≡ k → ⊥
+      lower ne e =
+          let more = count-less (single p) (in-layer L k) N q l (ne-eqb q p ne) (eq-eqb (L q) k e) (single-inside p N (in-layer L k) (eq-eqb (L p) k top)) in
+          omega (arith, more, count-single p N (w .page), w .layered .last (w .slots .0))
+
+      other : (q ≡ p → ⊥) → asked-known k k p L q ≡ L q
+      other ne = rw (ne-eqb q p ne, ne-eqb (L q) k (lower ne), le-ltb k (L q) (w .layered .bounded q l))
+
+  top-asked : L p ≡ k → layer ≡ asked N k p layer
+  top-asked top =
+      sym (ext-getD 0 (asked N k p layer) layer size (λ q _. ⊎-elim (asked-past N k p layer q) (λ l. asked-at N k p layer q l ∙ top-stays top q l) (le-or-lt N q)))
+    where
+      size : length (asked N k p layer) ≡ length layer
+      size = asked-length N k p layer 1024 (w .long .0) (w .pages) ∙ sym (w .long .0)
+
+  pub top-stepped :
+      (s : ℕ) → Path (Option ℕ) (seat held k p) (some s) → L p ≡ k → Stepped N k p layer priority held (Hit s) layer held near keys
+  unfolding event-of held-after
+  top-stepped s e top =
+      let (l, at) = seat-some held k p s e in
+      let here = seated-in held k p s l at in
+      record {
+        event-is = rw (here, slot-is p s e);
+        layer-is = top-asked top;
+        held-is = rw here;
+        near-is = refl;
         keys-is = refl;
         long = w .long .0;
       }

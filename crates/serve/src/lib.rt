@@ -117,6 +117,10 @@ pub fn step<'a>(
     let Found::At(s) = place else {
         return swap(layer, priority, held, near, keys, pages, slots, page);
     };
+    // The page of L_k is alone there, so that nothing moves.
+    if layer[p] == slots {
+        return Event::Hit { slot: s };
+    }
     settle(layer, near, pages, slots, p, s);
     Event::Hit { slot: s }
 }

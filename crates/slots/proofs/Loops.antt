@@ -2,7 +2,7 @@
 use mathlib.Core.Bool.{Bool, true, false, _&&_}
 use mathlib.Core.List.{List}
 use mathlib.Core.Logic.{⊎-elim}
-use mathlib.Core.Option.{Option, none, some}
+use mathlib.Core.Option.{Option, none, some, Option·getD}
 use mathlib.Core.Path.{Path, _≡_, refl, sym, ap, _∙_}
 use Prim.Native.Nat.{ℕ, suc, _+_, min, _≤_, _<_}
 use native.Mathlib.Numerals.{add-one}
@@ -11,7 +11,7 @@ use lib.Dec.{eqb}
 use lib.ListN.{length, getD, set, replicate, List·getD-eq-default}
 use borrow.Author.Count.{below-more}
 use borrow.Author.Tests.{eqb-true, eq-eqb, ne-eqb, le-leb, lt-leb}
-use Rattle.paging.specs.Sets.{_=?_, _≤?_, if_then_else_, bit, count, first, listed}
+use Rattle.paging.specs.Sets.{_=?_, _≤?_, if_then_else_, bit, count, or-else, first, listed}
 use Rattle.paging.specs.Tests.{clash, isnt, and-in, and-right, le-or-lt}
 use Rattle.paging.specs.Count.{count-most as count-at-most}
 use Rattle.paging.specs.Words.{first-some, first-is, first-same}
@@ -80,23 +80,52 @@ page-read h s l =
     past : length h ≤ s → getD h s 0 ≡ getD h s no-page
     past o = absurd (omega (arith, List·getD-eq-default h no-page {n = s} o))
 
--- what `find` looks for: a slot that holds q
-unfoldable pub holds : List ℕ → ℕ → ℕ → Bool
-holds h q s = getD h s no-page =? q
+-- what `find` keeps: the first of the slots passed that holds q, 64 where none does
+unfoldable pub soonest : List ℕ → ℕ → ℕ → ℕ
+soonest h q s = Option·getD (seat h s q) 64
 
-module _ (h : List ℕ) (q s : ℕ) (passed : Passed (holds h q) s) where
-  pub slot-here : (k : ℕ) → s < k → s < length h → getD h s 0 ≡ q → At s ≡ found (seat h k q)
-  unfolding seat holds
-  slot-here k l i e = found-here k (holds h q) s l passed (eq-eqb (getD h s no-page) q (entry-any h s no-page 0 i ∙ e))
+pub soonest-none : (h : List ℕ) (q : ℕ) → 64 ≡ soonest h q 0
+unfolding soonest seat first
+soonest-none h q = refl
 
-  pub slot-none : (k : ℕ) → k ≤ s → Nowhere ≡ found (seat h k q)
-  unfolding seat holds
-  slot-none k l = found-none k (holds h q) s l passed
+module _ (h : List ℕ) (q : ℕ) where
+  abbrev test : ℕ → Bool
+  test s = getD h s no-page =? q
 
-  pub slot-next : s < length h → (getD h s 0 ≡ q → ⊥) → Passed (holds h q) (s + 1)
-  unfolding holds
-  slot-next i ne =
-      below-more _ s passed (ne-eqb (getD h s no-page) q (λ e. ne (entry-any h s 0 no-page i ∙ e)))
+  -- a slot more
+  more : (x : Option ℕ) (s : ℕ) (b : Bool) → s ≤ 64 → ((t : ℕ) → Path (Option ℕ) x (some t) → t < s) →
+      Option·getD (or-else x (if b then some s else none)) 64 ≡ min (Option·getD x 64) (if b then s else 64)
+  more (some t) s true l below = let m = below t refl in omega arith
+  more (some t) s false l below = let m = below t refl in omega arith
+  more none s true l below = omega arith
+  more none s false l below = omega arith
+
+  pub soonest-next :
+      (at s r entry : ℕ) → s < length h → s ≤ 64 → entry ≡ getD h s 0 → at ≡ soonest h q s → r ≡ min at (if entry =? q then s else 64) →
+      r ≡ soonest h q (s + 1)
+  unfolding soonest seat first
+  soonest-next at s r entry i l ee ea er =
+      rw (add-one s, er, ea, ee, entry-any h s 0 no-page i)
+      (sym (more (first s test) s (test s) l (λ t e. first-some s test t e .below)))
+
+  -- all slots passed
+  pub soonest-here : (at k : ℕ) → k ≤ 64 → at ≡ soonest h q k → at < 64 → At at ≡ found (seat h k q)
+  unfolding soonest
+  soonest-here at k l e low = go (seat h k q) refl
+    where
+      go : (x : Option ℕ) → Path (Option ℕ) (seat h k q) x → At at ≡ found (seat h k q)
+      go none f = let z : at ≡ 64 = e ∙ ap (λ (y : Option ℕ). Option·getD y 64) f in absurd (omega arith)
+      go (some t) f = let z : at ≡ t = e ∙ ap (λ (y : Option ℕ). Option·getD y 64) f in rw (f, z)
+
+  pub soonest-nowhere : (at k : ℕ) → k ≤ 64 → at ≡ soonest h q k → 64 ≤ at → Nowhere ≡ found (seat h k q)
+  unfolding soonest seat
+  soonest-nowhere at k l e high = go (first k test) refl
+    where
+      go : (x : Option ℕ) → Path (Option ℕ) (first k test) x → Nowhere ≡ found (first k test)
+      go none f = ap found (sym f)
+      go (some t) f =
+          let z : at ≡ t = e ∙ ap (λ (y : Option ℕ). Option·getD y 64) f in
+          absurd (omega (arith, first-some k test t f .below))
 
 -- ---- one slot more
 

@@ -15,19 +15,35 @@ pub enum Found {
 // How many layers `reach` counts afresh.
 const AFRESH: u8 = 4;
 
-// The slot of a page.
+// Slot s, where it holds the page; else 64.
+fn slot_if(entry: u16, page: u16, s: u8) -> u8
+    ensures { λ r. ⌜ r ≡ (if entry =? page then s else 64) ⌝ }
+{
+    if entry == page { s } else { 64 }
+}
+
+// The lower of two slots.
+fn lower_slot(a: u8, b: u8) -> u8
+    ensures { λ r. ⌜ r ≡ min a b ⌝ }
+{
+    if b < a { b } else { a }
+}
+
+// The slot of a page, the first that holds it. A flat pass over all slots is faster than one that stops where it is found.
 pub fn find(held: &[u16; 64], slots: usize, page: u16) -> Found
     requires { ⌜ slots ≤ 64 ⌝ }
     ensures { λ r. ⌜ r ≡ found (seat (now (held .entry)) slots page) ⌝ }
 {
     // A slice knows its length: a slot below 64 is an entry of the list.
     let entries: &[u16] = held;
+    let mut at: u8 = 64;
     let mut s = 0;
     while s < slots {
-        if entries[s] == page {
-            return Found::At(s);
-        }
+        at = lower_slot(at, slot_if(entries[s], page, s as u8));
         s += 1;
+    }
+    if at < 64 {
+        return Found::At(at as usize);
     }
     Found::Nowhere
 }

@@ -2,7 +2,7 @@
 use Prim.Native.Nat.{_-_}
 use mathlib.Core.Path.{sym, _∙_}
 use borrow.Author.Needs.{needs}
-use Rattle.serve.proofs.Swaps.{settles, away, here, stayed}
+use Rattle.serve.proofs.Swaps.{settles, away, here, stayed, unmoved}
 use Rattle.serve.proofs.step.Statement.{statement}
 use Rattle.serve.proofs.step.Tie as tie
 
@@ -27,14 +27,26 @@ swap-requires c κs = (
 returns : tie.Need-returns
 returns c = search needs
 
-settle-requires : tie.Need-settle-requires
-settle-requires c κs =
-    settles (c .before .before .before .before .before .before .before .pre .0) (c .before .before .before .before .before .before .before .pre .1 .0) _ (here _ _ _ _ (sym (c .before .before .before .place .given .1) ∙ c .before .before .before .before .before .find .ensures))
+element-copy-out-if1 : tie.Need-element-copy-out-if1
+element-copy-out-if1 c = search needs
 
 returns-2 : tie.Need-returns-2
 returns-2 c =
-    stayed (c .before .before .before .before .before .before .before .before .pre .0) (c .before .before .before .before .before .before .before .before .pre .1 .0) (c .before .before .before .before .before .before .before .before .pre .1 .1) _ _ _
-    (sym (c .before .before .before .before .place .given .1) ∙ c .before .before .before .before .before .before .find .ensures)
+    let s = c .before .before .before .before .before .before .before in
+    unmoved (s .pre .0) (s .pre .1 .0) (s .pre .1 .1) _
+    (sym (c .before .before .before .place .given .1) ∙ c .before .before .before .before .before .find .ensures)
+    (c .if1 .taken)
+
+settle-requires : tie.Need-settle-requires
+settle-requires c κs =
+    let s = c .before .before .before .before .before .before .before .before .before in
+    settles (s .pre .0) (s .pre .1 .0) _ (here _ _ _ _ (sym (c .before .before .before .before .before .place .given .1) ∙ c .before .before .before .before .before .before .before .find .ensures))
+
+returns-3 : tie.Need-returns-3
+returns-3 c =
+    let s = c .before .before .before .before .before .before .before .before .before .before in
+    stayed (s .pre .0) (s .pre .1 .0) (s .pre .1 .1) _ _ _
+    (sym (c .before .before .before .before .before .before .place .given .1) ∙ c .before .before .before .before .before .before .before .before .find .ensures)
     (c .settle .ensures .0)
     (c .settle .ensures .1)
 
@@ -47,5 +59,7 @@ step-spec =
     enum-told
     swap-requires
     returns
+    element-copy-out-if1
+    returns-2
     settle-requires
-    returns-2)
+    returns-3)

@@ -1,28 +1,35 @@
--- `slots::find` meets its contract. The loop's invariant: no slot passed holds the page. Assumes nothing.
-use Prim.Native.Nat.{_≤_, _-_}
+-- `slots::find` meets its contract. The loop's invariant: `at` is the first of the slots passed that holds the page. Assumes nothing.
+use mathlib.Core.Path.{_≡_, refl, ap, _∙_}
+use Prim.Native.Nat.{ℕ, min, _≤_, _-_}
 use native.Mathlib.Omega.{arith}
 use borrow.Author.Needs.{needs}
-use Rattle.slots.proofs.Loops.{Passed, holds, slot-here, slot-none, slot-next}
+use Rattle.slots.proofs.Loops.{soonest, soonest-none, soonest-next, soonest-here, soonest-nowhere}
 use Rattle.slots.proofs.find.Statement.{statement}
 use Rattle.slots.proofs.find.Tie as tie
 
 abbrev Inv-loop : tie.InvT-loop
-Inv-loop held slots page entries s₀ s = (s ≤ slots) × Passed (holds held page) s
+Inv-loop held slots page entries at₀ s₀ at s = (s ≤ slots) × (at ≡ soonest held page s)
 
 abbrev μ-loop : tie.MeasureT-loop
-μ-loop held slots page entries s₀ s = slots - s
+μ-loop held slots page entries at₀ s₀ at s = slots - s
 
 loop-holds : tie.Need-loop-holds Inv-loop μ-loop
-loop-holds c = (search needs, λ t l. absurd (omega arith))
+loop-holds c = (search needs, soonest-none _ _)
 
-mul-if1 : tie.Need-mul-if1 Inv-loop μ-loop
-mul-if1 c = search needs
+mul-slot-if : tie.Need-mul-slot-if Inv-loop μ-loop
+mul-slot-if c = search needs
 
-shared-slice-read-if1 : tie.Need-shared-slice-read-if1 Inv-loop μ-loop
-shared-slice-read-if1 c = search needs
+shared-slice-read-slot-if : tie.Need-shared-slice-read-slot-if Inv-loop μ-loop
+shared-slice-read-slot-if c = search needs
 
-returns : tie.Need-returns Inv-loop μ-loop
-returns c = slot-here _ _ _ (c .before .before .before .loop .inv .1) _ (search needs) (search needs) (c .if1 .taken)
+cast-slot-if : tie.Need-cast-slot-if Inv-loop μ-loop
+cast-slot-if c = search needs
+
+slot-if-requires : tie.Need-slot-if-requires Inv-loop μ-loop
+slot-if-requires c κs = search needs
+
+lower-slot-requires : tie.Need-lower-slot-requires Inv-loop μ-loop
+lower-slot-requires c κs = search needs
 
 add-s : tie.Need-add-s Inv-loop μ-loop
 add-s c = search needs
@@ -31,10 +38,28 @@ loop-less : tie.Need-loop-less Inv-loop μ-loop
 loop-less c = search needs
 
 loop-again : tie.Need-loop-again Inv-loop μ-loop
-loop-again c = (search needs, slot-next _ _ _ (c .before .before .before .loop .inv .1) (search needs) (c .if1 .left))
+loop-again c = (
+  search needs,
+  soonest-next _ _ _ _ _ _ (search needs) (search needs) refl (c .before .before .before .before .loop .inv .1)
+      (c .lower-slot .ensures ∙ ap (λ (b : ℕ). min (c .before .before .before .before .loop .at) b) (c .before .slot-if .ensures)),
+)
+
+cast-t15 : tie.Need-cast-t15 Inv-loop μ-loop
+cast-t15 c = search needs
+
+returns : tie.Need-returns Inv-loop μ-loop
+returns c =
+    let l = c .before .before .loop in
+    let a = c .before .before .before .before .args in
+    let e : l .s ≡ a .slots = omega arith in
+    soonest-here _ _ _ _ (search needs) (rw e at (l .inv .1)) (search needs)
 
 returns-2 : tie.Need-returns-2 Inv-loop μ-loop
-returns-2 c = slot-none _ _ _ (c .before .loop .inv .1) _ (search needs)
+returns-2 c =
+    let l = c .before .before .loop in
+    let a = c .before .before .before .before .args in
+    let e : l .s ≡ a .slots = omega arith in
+    soonest-nowhere _ _ _ _ (search needs) (rw e at (l .inv .1)) (search needs)
 
 pub find-spec : {M : Type 1} → statement M
 find-spec =
@@ -43,10 +68,14 @@ find-spec =
     Inv-loop
     μ-loop
     loop-holds
-    mul-if1
-    shared-slice-read-if1
-    returns
+    mul-slot-if
+    shared-slice-read-slot-if
+    cast-slot-if
+    slot-if-requires
+    lower-slot-requires
     add-s
     loop-less
     loop-again
+    cast-t15
+    returns
     returns-2)
