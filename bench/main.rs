@@ -1,0 +1,260 @@
+//! Times the proved library beside two Rust programs that do the same work, and compares every answer.
+//!   bench            the table of kinds and the tables of growth
+//!   bench kinds      the table of kinds alone
+//!   bench grow       the tables of growth alone
+//!   bench once KIND N K   every call once, for counting instructions
+mod plain;
+mod same;
+mod traces;
+
+use std::hint::black_box;
+use std::process::exit;
+use std::time::Instant;
+use traces::{Kind, KINDS};
+
+extern "C" {
+    fn timed_replay(file: *const u8, length: usize) -> u32;
+    fn timed_checked(file: *const u8, length: usize) -> u32;
+    fn timed_text(file: *const u8, length: usize, out: *mut u8, room: usize) -> usize;
+    fn timonedra_serve(image: *mut u8, length: usize, page: u32) -> u32;
+}
+
+// The library's calls, as Rust calls. Each lends whole slices.
+fn our_replay(file: &[u8]) -> u32 {
+    unsafe { timed_replay(file.as_ptr(), file.len()) }
+}
+fn our_checked(file: &[u8]) -> u32 {
+    unsafe { timed_checked(file.as_ptr(), file.len()) }
+}
+fn our_text(file: &[u8], out: &mut [u8]) -> usize {
+    unsafe { timed_text(file.as_ptr(), file.len(), out.as_mut_ptr(), out.len()) }
+}
+fn our_serve(image: &mut [u8], page: u32) -> u32 {
+    unsafe { timonedra_serve(image.as_mut_ptr(), image.len(), page) }
+}
+
+const SIDES: [&str; 3] = ["ours", "plain", "same"];
+const REPLAY: [fn(&[u8]) -> u32; 3] = [our_replay, plain::plain_replay, same::same_replay];
+const CHECKED: [fn(&[u8]) -> u32; 3] = [our_checked, plain::plain_checked, same::same_checked];
+const TEXT: [fn(&[u8], &mut [u8]) -> usize; 3] = [our_text, plain::plain_text, same::same_text];
+const SERVE: [fn(&mut [u8], u32) -> u32; 3] = [our_serve, plain::plain_serve, same::same_serve];
+
+const REQUESTS: usize = 30_000;
+// The calls that test the whole run get the first requests of the trace, on every side the same.
+const FEWER: usize = 3_000;
+const ROOM: usize = 3_000_208;
+
+fn rounds() -> usize {
+    std::env::var("ROUNDS").ok().and_then(|text| text.parse().ok()).unwrap_or(5)
+}
+
+fn mismatch(call: &str, side: usize, kind: Kind, pages: usize, slots: usize) -> ! {
+    println!("MISMATCH: {call} of {} differs from ours on {} N={pages} k={slots}", SIDES[side], kind.name());
+    exit(1);
+}
+
+/// The traces of a kind, and the image with which they start.
+struct Work {
+    kind: Kind,
+    pages: usize,
+    slots: usize,
+    requests: Vec<u16>,
+    file: Vec<u8>,
+    short: Vec<u8>,
+    image: Vec<u8>,
+}
+
+impl Work {
+    fn new(kind: Kind, pages: usize, slots: usize) -> Work {
+        let seed = 1 + kind as u64 + 1000 * pages as u64 + 1_000_000 * slots as u64;
+        let requests = traces::requests(kind, pages, slots, REQUESTS, seed);
+        let file = traces::file(pages, slots, &requests);
+        let short = traces::file(pages, slots, &requests[..FEWER]);
+        Work { kind, pages, slots, requests, file, short, image: traces::image(pages, slots) }
+    }
+
+    /// Serves the first requests to an image in place, and answers the answers added up in order.
+    fn board(&self, serve: fn(&mut [u8], u32) -> u32, image: &mut [u8]) -> u64 {
+        let mut sum: u64 = 0;
+        for &page in &self.requests[..FEWER] {
+            sum = sum.wrapping_mul(31).wrapping_add(serve(black_box(&mut *image), page as u32) as u64);
+        }
+        sum
+    }
+
+    /// Every call on every side; ends the program where answers differ. Answers the misses.
+    fn compare(&self) -> u32 {
+        let (kind, pages, slots) = (self.kind, self.pages, self.slots);
+        let misses = our_replay(&self.file);
+        let short = our_checked(&self.short);
+        let mut text = vec![0; ROOM];
+        let length = our_text(&self.file, &mut text);
+        let mut image = self.image.clone();
+        let answers = self.board(our_serve, &mut image);
+        if length == 0 || short != our_replay(&self.short) {
+            mismatch("checked or text", 0, kind, pages, slots);
+        }
+        let last = String::from_utf8_lossy(&text[..length]).lines().last().unwrap_or("").to_string();
+        if !last.contains(&format!("misses {misses} ")) || u32::from_le_bytes([image[16], image[17], image[18], image[19]]) != short {
+            mismatch("misses of text or board", 0, kind, pages, slots);
+        }
+        for side in 1..3 {
+            if REPLAY[side](&self.file) != misses {
+                mismatch("replay", side, kind, pages, slots);
+            }
+            if CHECKED[side](&self.short) != short {
+                mismatch("checked", side, kind, pages, slots);
+            }
+            let mut other = vec![0; ROOM];
+            if TEXT[side](&self.file, &mut other) != length || other[..length] != text[..length] {
+                mismatch("text", side, kind, pages, slots);
+            }
+            let mut other = self.image.clone();
+            if self.board(SERVE[side], &mut other) != answers || other != image {
+                mismatch("board", side, kind, pages, slots);
+            }
+        }
+        misses
+    }
+}
+
+/// Nanoseconds per request of each of three sides: the best of the rounds, the sides in turn in each.
+fn best(count: usize, mut sample: impl FnMut(usize) -> f64, sides: &[usize]) -> [f64; 3] {
+    let mut least = [f64::INFINITY; 3];
+    for _ in 0..rounds() {
+        for &side in sides {
+            least[side] = least[side].min(sample(side));
+        }
+    }
+    least.map(|time| time / count as f64)
+}
+
+fn timed<T>(call: impl FnOnce() -> T) -> f64 {
+    let begin = Instant::now();
+    black_box(call());
+    begin.elapsed().as_nanos() as f64
+}
+
+fn replay(work: &Work, sides: &[usize]) -> [f64; 3] {
+    best(REQUESTS, |side| timed(|| REPLAY[side](black_box(&work.file))), sides)
+}
+
+fn checked(work: &Work, sides: &[usize]) -> [f64; 3] {
+    best(FEWER, |side| timed(|| CHECKED[side](black_box(&work.short))), sides)
+}
+
+fn board(work: &Work) -> [f64; 3] {
+    let mut image = work.image.clone();
+    let sample = |side: usize| {
+        image.copy_from_slice(&work.image);
+        timed(|| work.board(SERVE[side], &mut image))
+    };
+    best(FEWER, sample, &[0, 1, 2])
+}
+
+fn text(work: &Work, out: &mut [u8]) -> [f64; 3] {
+    best(REQUESTS, |side| timed(|| TEXT[side](black_box(&work.file), black_box(&mut *out))), &[0, 1, 2])
+}
+
+fn row(call: &str, kind: Kind, times: [f64; 3]) {
+    println!(
+        "| {call} | {} | {:.0} | {:.0} | {:.0} | {:.2} | {:.2} |",
+        kind.name(),
+        times[0],
+        times[1],
+        times[2],
+        times[0] / times[1],
+        times[0] / times[2]
+    );
+}
+
+fn kinds() {
+    let mut out = vec![0; ROOM];
+    for (pages, slots) in [(1024, 64), (64, 8)] {
+        println!("\nN={pages} k={slots}, ns per request, best of {}:\n", rounds());
+        println!("| Call | Kind | ours | plain Rust | Rust, our algorithm | ours / plain | ours / same algorithm |");
+        println!("|---|---|---:|---:|---:|---:|---:|");
+        let works: Vec<Work> = KINDS.iter().map(|&kind| Work::new(kind, pages, slots)).collect();
+        let misses: Vec<u32> = works.iter().map(|work| work.compare()).collect();
+        for work in &works {
+            row("sound step", work.kind, replay(work, &[0, 1, 2]));
+        }
+        let mut one = Vec::new();
+        for work in &works {
+            let times = checked(work, &[0, 1, 2]);
+            one.push(times[0]);
+            row("checked request", work.kind, times);
+        }
+        let mut entry = Vec::new();
+        for work in &works {
+            let times = board(work);
+            entry.push(times[0]);
+            row("board entry", work.kind, times);
+        }
+        for work in &works {
+            row("play to text", work.kind, text(work, &mut out));
+        }
+        print!("\nBoard entry / checked request, ours:");
+        for (i, work) in works.iter().enumerate() {
+            print!(" {} {:.2}", work.kind.name(), entry[i] / one[i]);
+        }
+        print!("\nMisses per 100 requests:");
+        for (i, work) in works.iter().enumerate() {
+            print!(" {} {:.1}", work.kind.name(), misses[i] as f64 * 100.0 / REQUESTS as f64);
+        }
+        println!("\nMisses, text bytes, board answers and images are equal on all three sides.");
+    }
+}
+
+fn grow() {
+    let table = |sizes: &[(usize, usize)]| {
+        println!("| N | k | step, ours | step, plain | checked, ours | checked, plain |");
+        println!("|---:|---:|---:|---:|---:|---:|");
+        for &(pages, slots) in sizes {
+            let work = Work::new(Kind::Uniform, pages, slots);
+            work.compare();
+            let step = replay(&work, &[0, 1]);
+            let request = checked(&work, &[0, 1]);
+            println!("| {pages} | {slots} | {:.0} | {:.0} | {:.0} | {:.0} |", step[0], step[1], request[0], request[1]);
+        }
+    };
+    println!("\nGrowth with N, uniform traces, ns per request:\n");
+    table(&[(64, 64), (128, 64), (256, 64), (512, 64), (1024, 64)]);
+    println!("\nGrowth with k, uniform traces, ns per request:\n");
+    table(&[(1024, 1), (1024, 2), (1024, 4), (1024, 8), (1024, 16), (1024, 32), (1024, 64)]);
+}
+
+/// Every call once on every side, for a program that counts instructions by function.
+fn once(kind: &str, pages: usize, slots: usize) {
+    let Some(&kind) = KINDS.iter().find(|k| k.name() == kind) else {
+        eprintln!("no kind {kind}");
+        exit(2);
+    };
+    let work = Work::new(kind, pages, slots);
+    let mut out = vec![0; ROOM];
+    for side in 0..3 {
+        black_box(REPLAY[side](black_box(&work.file)));
+        black_box(CHECKED[side](black_box(&work.short)));
+        black_box(TEXT[side](black_box(&work.file), &mut out));
+        let mut image = work.image.clone();
+        black_box(work.board(SERVE[side], &mut image));
+    }
+}
+
+fn main() {
+    let words: Vec<String> = std::env::args().skip(1).collect();
+    let words: Vec<&str> = words.iter().map(|word| word.as_str()).collect();
+    match words[..] {
+        [] => {
+            kinds();
+            grow();
+        }
+        ["kinds"] => kinds(),
+        ["grow"] => grow(),
+        ["once", kind, pages, slots] => once(kind, pages.parse().unwrap_or(1024), slots.parse().unwrap_or(64)),
+        _ => {
+            eprintln!("usage: bench [kinds | grow | once KIND N K]");
+            exit(2);
+        }
+    }
+}
