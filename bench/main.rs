@@ -1,15 +1,15 @@
-//! Times the proved library beside two Rust programs that do the same work, and compares every answer.
+//! Times the proved library beside Rust programs that do the same work, and compares every answer.
 //!   bench            the table of kinds and the tables of growth
 //!   bench kinds      the table of kinds alone
 //!   bench grow       the tables of growth alone
-//!   bench once KIND N K   every call once, for counting instructions
+//!   bench once KIND N K       every call once on every side, for counting instructions
+//!   bench ours CALL KIND N K  one call of the library once, for finding where its instructions go
 mod plain;
 mod same;
 mod traces;
 
 use std::hint::black_box;
 use std::process::exit;
-use std::time::Instant;
 use traces::{Kind, KINDS};
 
 extern "C" {
@@ -17,7 +17,10 @@ extern "C" {
     fn timed_checked(file: *const u8, length: usize) -> u32;
     fn timed_text(file: *const u8, length: usize, out: *mut u8, room: usize) -> usize;
     fn timonedra_serve(image: *mut u8, length: usize, page: u32) -> u32;
+    fn clock_gettime(clock: i32, time: &mut [i64; 2]) -> i32;
 }
+
+const THREAD_CPUTIME: i32 = 3;
 
 // The library's calls, as Rust calls. Each lends whole slices.
 fn our_replay(file: &[u8]) -> u32 {
@@ -33,11 +36,12 @@ fn our_serve(image: &mut [u8], page: u32) -> u32 {
     unsafe { timonedra_serve(image.as_mut_ptr(), image.len(), page) }
 }
 
-const SIDES: [&str; 3] = ["ours", "plain", "same"];
-const REPLAY: [fn(&[u8]) -> u32; 3] = [our_replay, plain::plain_replay, same::same_replay];
-const CHECKED: [fn(&[u8]) -> u32; 3] = [our_checked, plain::plain_checked, same::same_checked];
-const TEXT: [fn(&[u8], &mut [u8]) -> usize; 3] = [our_text, plain::plain_text, same::same_text];
-const SERVE: [fn(&mut [u8], u32) -> u32; 3] = [our_serve, plain::plain_serve, same::same_serve];
+const SIDES: [&str; 4] = ["ours", "plain", "flat", "same"];
+const ALL: [usize; 4] = [0, 1, 2, 3];
+const REPLAY: [fn(&[u8]) -> u32; 4] = [our_replay, plain::plain_replay, plain::flat_replay, same::same_replay];
+const CHECKED: [fn(&[u8]) -> u32; 4] = [our_checked, plain::plain_checked, plain::flat_checked, same::same_checked];
+const TEXT: [fn(&[u8], &mut [u8]) -> usize; 4] = [our_text, plain::plain_text, plain::flat_text, same::same_text];
+const SERVE: [fn(&mut [u8], u32) -> u32; 4] = [our_serve, plain::plain_serve, plain::flat_serve, same::same_serve];
 
 const REQUESTS: usize = 30_000;
 // The calls that test the whole run get the first requests of the trace, on every side the same.
@@ -98,7 +102,7 @@ impl Work {
         if !last.contains(&format!("misses {misses} ")) || u32::from_le_bytes([image[16], image[17], image[18], image[19]]) != short {
             mismatch("misses of text or board", 0, kind, pages, slots);
         }
-        for side in 1..3 {
+        for side in 1..4 {
             if REPLAY[side](&self.file) != misses {
                 mismatch("replay", side, kind, pages, slots);
             }
@@ -118,9 +122,9 @@ impl Work {
     }
 }
 
-/// Nanoseconds per request of each of three sides: the best of the rounds, the sides in turn in each.
-fn best(count: usize, mut sample: impl FnMut(usize) -> f64, sides: &[usize]) -> [f64; 3] {
-    let mut least = [f64::INFINITY; 3];
+/// Nanoseconds per request of each of the sides: the best of the rounds, the sides in turn in each.
+fn best(count: usize, mut sample: impl FnMut(usize) -> f64, sides: &[usize]) -> [f64; 4] {
+    let mut least = [f64::INFINITY; 4];
     for _ in 0..rounds() {
         for &side in sides {
             least[side] = least[side].min(sample(side));
@@ -129,59 +133,69 @@ fn best(count: usize, mut sample: impl FnMut(usize) -> f64, sides: &[usize]) -> 
     least.map(|time| time / count as f64)
 }
 
-fn timed<T>(call: impl FnOnce() -> T) -> f64 {
-    let begin = Instant::now();
-    black_box(call());
-    begin.elapsed().as_nanos() as f64
+/// The nanoseconds that this thread has had a processor, by Linux on 64 bits: other load takes none of them.
+fn now() -> f64 {
+    let mut time = [0i64; 2];
+    unsafe { clock_gettime(THREAD_CPUTIME, &mut time) };
+    time[0] as f64 * 1e9 + time[1] as f64
 }
 
-fn replay(work: &Work, sides: &[usize]) -> [f64; 3] {
+fn timed<T>(call: impl FnOnce() -> T) -> f64 {
+    let begin = now();
+    black_box(call());
+    now() - begin
+}
+
+fn replay(work: &Work, sides: &[usize]) -> [f64; 4] {
     best(REQUESTS, |side| timed(|| REPLAY[side](black_box(&work.file))), sides)
 }
 
-fn checked(work: &Work, sides: &[usize]) -> [f64; 3] {
+fn checked(work: &Work, sides: &[usize]) -> [f64; 4] {
     best(FEWER, |side| timed(|| CHECKED[side](black_box(&work.short))), sides)
 }
 
-fn board(work: &Work) -> [f64; 3] {
+fn board(work: &Work) -> [f64; 4] {
     let mut image = work.image.clone();
     let sample = |side: usize| {
         image.copy_from_slice(&work.image);
         timed(|| work.board(SERVE[side], &mut image))
     };
-    best(FEWER, sample, &[0, 1, 2])
+    best(FEWER, sample, &ALL)
 }
 
-fn text(work: &Work, out: &mut [u8]) -> [f64; 3] {
-    best(REQUESTS, |side| timed(|| TEXT[side](black_box(&work.file), black_box(&mut *out))), &[0, 1, 2])
+fn text(work: &Work, out: &mut [u8]) -> [f64; 4] {
+    best(REQUESTS, |side| timed(|| TEXT[side](black_box(&work.file), black_box(&mut *out))), &ALL)
 }
 
-fn row(call: &str, kind: Kind, times: [f64; 3]) {
+fn row(call: &str, kind: Kind, times: [f64; 4]) {
     println!(
-        "| {call} | {} | {:.0} | {:.0} | {:.0} | {:.2} | {:.2} |",
+        "| {call} | {} | {:.0} | {:.0} | {:.0} | {:.0} | {:.2} | {:.2} | {:.2} |",
         kind.name(),
         times[0],
         times[1],
         times[2],
+        times[3],
         times[0] / times[1],
-        times[0] / times[2]
+        times[0] / times[2],
+        times[0] / times[3]
     );
 }
 
 fn kinds() {
     let mut out = vec![0; ROOM];
     for (pages, slots) in [(1024, 64), (64, 8)] {
-        println!("\nN={pages} k={slots}, ns per request, best of {}:\n", rounds());
-        println!("| Call | Kind | ours | plain Rust | Rust, our algorithm | ours / plain | ours / same algorithm |");
-        println!("|---|---|---:|---:|---:|---:|---:|");
+        println!("\nN={pages} k={slots}, ns per request, best of {}. ours: the proved library. plain: plain Rust. flat: the same, with", rounds());
+        println!("the pass over the layers spelt without a jump. same: Rust with our algorithm.\n");
+        println!("| Call | Kind | ours | plain | flat | same | ours / plain | ours / flat | ours / same |");
+        println!("|---|---|---:|---:|---:|---:|---:|---:|---:|");
         let works: Vec<Work> = KINDS.iter().map(|&kind| Work::new(kind, pages, slots)).collect();
         let misses: Vec<u32> = works.iter().map(|work| work.compare()).collect();
         for work in &works {
-            row("sound step", work.kind, replay(work, &[0, 1, 2]));
+            row("sound step", work.kind, replay(work, &ALL));
         }
         let mut one = Vec::new();
         for work in &works {
-            let times = checked(work, &[0, 1, 2]);
+            let times = checked(work, &ALL);
             one.push(times[0]);
             row("checked request", work.kind, times);
         }
@@ -202,20 +216,23 @@ fn kinds() {
         for (i, work) in works.iter().enumerate() {
             print!(" {} {:.1}", work.kind.name(), misses[i] as f64 * 100.0 / REQUESTS as f64);
         }
-        println!("\nMisses, text bytes, board answers and images are equal on all three sides.");
+        println!("\nMisses, text bytes, board answers and images are equal on all sides.");
     }
 }
 
 fn grow() {
     let table = |sizes: &[(usize, usize)]| {
-        println!("| N | k | step, ours | step, plain | checked, ours | checked, plain |");
-        println!("|---:|---:|---:|---:|---:|---:|");
+        println!("| N | k | step, ours | step, plain | step, flat | checked, ours | checked, plain | checked, flat |");
+        println!("|---:|---:|---:|---:|---:|---:|---:|---:|");
         for &(pages, slots) in sizes {
             let work = Work::new(Kind::Uniform, pages, slots);
             work.compare();
-            let step = replay(&work, &[0, 1]);
-            let request = checked(&work, &[0, 1]);
-            println!("| {pages} | {slots} | {:.0} | {:.0} | {:.0} | {:.0} |", step[0], step[1], request[0], request[1]);
+            let step = replay(&work, &[0, 1, 2]);
+            let request = checked(&work, &[0, 1, 2]);
+            println!(
+                "| {pages} | {slots} | {:.0} | {:.0} | {:.0} | {:.0} | {:.0} | {:.0} |",
+                step[0], step[1], step[2], request[0], request[1], request[2]
+            );
         }
     };
     println!("\nGrowth with N, uniform traces, ns per request:\n");
@@ -224,15 +241,28 @@ fn grow() {
     table(&[(1024, 1), (1024, 2), (1024, 4), (1024, 8), (1024, 16), (1024, 32), (1024, 64)]);
 }
 
-/// Every call once on every side, for a program that counts instructions by function.
-fn once(kind: &str, pages: usize, slots: usize) {
+fn named(kind: &str, pages: &str, slots: &str) -> Work {
     let Some(&kind) = KINDS.iter().find(|k| k.name() == kind) else {
         eprintln!("no kind {kind}");
         exit(2);
     };
-    let work = Work::new(kind, pages, slots);
+    Work::new(kind, pages.parse().unwrap_or(1024), slots.parse().unwrap_or(64))
+}
+
+/// One call of the library, once.
+fn ours(call: &str, work: Work) {
+    match call {
+        "replay" => drop(black_box(our_replay(&work.file))),
+        "checked" => drop(black_box(our_checked(&work.short))),
+        "text" => drop(black_box(our_text(&work.file, &mut vec![0; ROOM]))),
+        _ => drop(black_box(work.board(our_serve, &mut work.image.clone()))),
+    }
+}
+
+/// Every call once on every side, for a program that counts instructions by function.
+fn once(work: Work) {
     let mut out = vec![0; ROOM];
-    for side in 0..3 {
+    for side in 0..4 {
         black_box(REPLAY[side](black_box(&work.file)));
         black_box(CHECKED[side](black_box(&work.short)));
         black_box(TEXT[side](black_box(&work.file), &mut out));
@@ -251,9 +281,10 @@ fn main() {
         }
         ["kinds"] => kinds(),
         ["grow"] => grow(),
-        ["once", kind, pages, slots] => once(kind, pages.parse().unwrap_or(1024), slots.parse().unwrap_or(64)),
+        ["once", kind, pages, slots] => once(named(kind, pages, slots)),
+        ["ours", call, kind, pages, slots] => ours(call, named(kind, pages, slots)),
         _ => {
-            eprintln!("usage: bench [kinds | grow | once KIND N K]");
+            eprintln!("usage: bench [kinds | grow | once KIND N K | ours CALL KIND N K]");
             exit(2);
         }
     }
