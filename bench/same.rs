@@ -252,10 +252,9 @@ impl Run {
         let near = &seats.near[..self.slots];
         let k = self.slots as u8;
         let bars = bars(near, &seats.keys[..self.slots], k);
-        for (q, ((&layer, &priority), &marked)) in
-            self.layer.iter().zip(&self.priority).zip(&marks).take(self.pages).enumerate()
-        {
-            if !(marked || layer == 0 || key(priority, q as u16) < bars[layer as usize]) {
+        for q in 0..self.pages {
+            let layer = self.layer[q];
+            if !(marks[q] || layer == 0 || key(self.priority[q], q as u16) < bars[layer as usize]) {
                 return false;
             }
         }

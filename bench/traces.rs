@@ -45,6 +45,7 @@ pub enum Kind {
 pub const KINDS: [Kind; 6] = [Kind::Uniform, Kind::Zipf, Kind::Phases, Kind::Loops, Kind::Stack, Kind::Calm];
 
 impl Kind {
+    #[allow(dead_code)]
     pub fn name(self) -> &'static str {
         match self {
             Kind::Uniform => "uniform",
