@@ -37,7 +37,6 @@ fn our_serve(image: &mut [u8], page: u32) -> u32 {
 }
 
 const SIDES: [&str; 4] = ["ours", "plain", "flat", "same"];
-const ALL: [usize; 4] = [0, 1, 2, 3];
 const REPLAY: [fn(&[u8]) -> u32; 4] = [our_replay, plain::plain_replay, plain::flat_replay, same::same_replay];
 const CHECKED: [fn(&[u8]) -> u32; 4] = [our_checked, plain::plain_checked, plain::flat_checked, same::same_checked];
 const TEXT: [fn(&[u8], &mut [u8]) -> usize; 4] = [our_text, plain::plain_text, plain::flat_text, same::same_text];
@@ -122,17 +121,6 @@ impl Work {
     }
 }
 
-/// Nanoseconds per request of each of the sides: the best of the rounds, the sides in turn in each.
-fn best(count: usize, mut sample: impl FnMut(usize) -> f64, sides: &[usize]) -> [f64; 4] {
-    let mut least = [f64::INFINITY; 4];
-    for _ in 0..rounds() {
-        for &side in sides {
-            least[side] = least[side].min(sample(side));
-        }
-    }
-    least.map(|time| time / count as f64)
-}
-
 /// The nanoseconds that this thread has had a processor, by Linux on 64 bits: other load takes none of them.
 fn now() -> f64 {
     let mut time = [0i64; 2];
@@ -146,25 +134,37 @@ fn timed<T>(call: impl FnOnce() -> T) -> f64 {
     now() - begin
 }
 
-fn replay(work: &Work, sides: &[usize]) -> [f64; 4] {
-    best(REQUESTS, |side| timed(|| REPLAY[side](black_box(&work.file))), sides)
+const CALLS: [&str; 4] = ["sound step", "checked request", "board entry", "play to text"];
+
+/// Nanoseconds per request of one call on one side, timed once.
+fn sample(work: &Work, call: usize, side: usize, image: &mut Vec<u8>, out: &mut [u8]) -> f64 {
+    match call {
+        0 => timed(|| REPLAY[side](black_box(&work.file))) / REQUESTS as f64,
+        1 => timed(|| CHECKED[side](black_box(&work.short))) / FEWER as f64,
+        2 => {
+            image.clone_from(&work.image);
+            timed(|| work.board(SERVE[side], image)) / FEWER as f64
+        }
+        _ => timed(|| TEXT[side](black_box(&work.file), black_box(&mut *out))) / REQUESTS as f64,
+    }
 }
 
-fn checked(work: &Work, sides: &[usize]) -> [f64; 4] {
-    best(FEWER, |side| timed(|| CHECKED[side](black_box(&work.short))), sides)
-}
-
-fn board(work: &Work) -> [f64; 4] {
-    let mut image = work.image.clone();
-    let sample = |side: usize| {
-        image.copy_from_slice(&work.image);
-        timed(|| work.board(SERVE[side], &mut image))
-    };
-    best(FEWER, sample, &ALL)
-}
-
-fn text(work: &Work, out: &mut [u8]) -> [f64; 4] {
-    best(REQUESTS, |side| timed(|| TEXT[side](black_box(&work.file), black_box(&mut *out))), &ALL)
+/// The best of the rounds for each trace, call and side. A round goes over all of them, so that a time of other load spoils one
+/// round and not one trace.
+fn best(works: &[Work], calls: &[usize]) -> Vec<[[f64; 4]; 4]> {
+    let mut least = vec![[[f64::INFINITY; 4]; 4]; works.len()];
+    let mut image = Vec::new();
+    let mut out = vec![0; ROOM];
+    for _ in 0..rounds() {
+        for (work, least) in works.iter().zip(&mut least) {
+            for &call in calls {
+                for side in 0..4 {
+                    least[call][side] = least[call][side].min(sample(work, call, side, &mut image, &mut out));
+                }
+            }
+        }
+    }
+    least
 }
 
 fn row(call: &str, kind: Kind, times: [f64; 4]) {
@@ -182,7 +182,6 @@ fn row(call: &str, kind: Kind, times: [f64; 4]) {
 }
 
 fn kinds() {
-    let mut out = vec![0; ROOM];
     for (pages, slots) in [(1024, 64), (64, 8)] {
         println!("\nN={pages} k={slots}, ns per request, best of {}. ours: the proved library. plain: plain Rust. flat: the same, with", rounds());
         println!("the pass over the layers spelt without a jump. same: Rust with our algorithm.\n");
@@ -190,50 +189,62 @@ fn kinds() {
         println!("|---|---|---:|---:|---:|---:|---:|---:|---:|");
         let works: Vec<Work> = KINDS.iter().map(|&kind| Work::new(kind, pages, slots)).collect();
         let misses: Vec<u32> = works.iter().map(|work| work.compare()).collect();
-        for work in &works {
-            row("sound step", work.kind, replay(work, &ALL));
-        }
-        let mut one = Vec::new();
-        for work in &works {
-            let times = checked(work, &ALL);
-            one.push(times[0]);
-            row("checked request", work.kind, times);
-        }
-        let mut entry = Vec::new();
-        for work in &works {
-            let times = board(work);
-            entry.push(times[0]);
-            row("board entry", work.kind, times);
-        }
-        for work in &works {
-            row("play to text", work.kind, text(work, &mut out));
+        let times = best(&works, &[0, 1, 2, 3]);
+        for (call, name) in CALLS.iter().enumerate() {
+            for (work, times) in works.iter().zip(&times) {
+                row(name, work.kind, times[call]);
+            }
         }
         print!("\nBoard entry / checked request, ours:");
         for (i, work) in works.iter().enumerate() {
-            print!(" {} {:.2}", work.kind.name(), entry[i] / one[i]);
+            print!(" {} {:.2}", work.kind.name(), times[i][2][0] / times[i][1][0]);
         }
         print!("\nMisses per 100 requests:");
         for (i, work) in works.iter().enumerate() {
             print!(" {} {:.1}", work.kind.name(), misses[i] as f64 * 100.0 / REQUESTS as f64);
         }
         println!("\nMisses, text bytes, board answers and images are equal on all sides.");
+        if pages == 1024 {
+            targets(&times);
+        }
     }
+}
+
+/// The targets beside the worst ratio of the kinds. The board entry's is to our own checked request.
+fn targets(times: &[[[f64; 4]; 4]]) {
+    let worst = |call: usize, side: usize| times.iter().map(|t| t[call][0] / t[call][side]).fold(0.0, f64::max);
+    println!("\nWorst ratio of the kinds, N=1024 k=64, and the most it may be:\n");
+    println!("| Call | may be of plain | of plain | of flat | may be of same | of same |");
+    println!("|---|---:|---:|---:|---:|---:|");
+    for (call, most) in [(0, "0.60"), (1, "0.60"), (2, "none"), (3, "0.75")] {
+        let (plain, flat, same) = (worst(call, 1), worst(call, 2), worst(call, 3));
+        println!("| {} | {most} | {plain:.2} | {flat:.2} | 1.15 | {same:.2} |", CALLS[call]);
+    }
+    let board = times.iter().map(|t| t[2][0] / t[1][0]).fold(0.0, f64::max);
+    println!("\nThe board entry may take 2.00 of a checked request and takes at worst {board:.2}.");
 }
 
 fn grow() {
     let table = |sizes: &[(usize, usize)]| {
         println!("| N | k | step, ours | step, plain | step, flat | checked, ours | checked, plain | checked, flat |");
         println!("|---:|---:|---:|---:|---:|---:|---:|---:|");
-        for &(pages, slots) in sizes {
-            let work = Work::new(Kind::Uniform, pages, slots);
+        let works: Vec<Work> = sizes.iter().map(|&(pages, slots)| Work::new(Kind::Uniform, pages, slots)).collect();
+        for work in &works {
             work.compare();
-            let step = replay(&work, &[0, 1, 2]);
-            let request = checked(&work, &[0, 1, 2]);
+        }
+        let all = best(&works, &[0, 1]);
+        for (work, [step, request, ..]) in works.iter().zip(&all) {
             println!(
-                "| {pages} | {slots} | {:.0} | {:.0} | {:.0} | {:.0} | {:.0} | {:.0} |",
-                step[0], step[1], step[2], request[0], request[1], request[2]
+                "| {} | {} | {:.0} | {:.0} | {:.0} | {:.0} | {:.0} | {:.0} |",
+                work.pages, work.slots, step[0], step[1], step[2], request[0], request[1], request[2]
             );
         }
+        let (first, last) = (&all[0], &all[all.len() - 1]);
+        println!(
+            "\nFrom the first row to the last our step takes {:.1} times as long and our checked request {:.1} times.",
+            last[0][0] / first[0][0],
+            last[1][0] / first[1][0]
+        );
     };
     println!("\nGrowth with N, uniform traces, ns per request:\n");
     table(&[(64, 64), (128, 64), (256, 64), (512, 64), (1024, 64)]);
