@@ -16,6 +16,7 @@ use Rattle.paging.specs.Words.{first-some, first-is, first-same}
 use Rattle.paging.specs.Tables.{table-at, table-past, table-length}
 use Rattle.slots.specs.Slots.{near-to, least-key}
 use Rattle.certify.specs.Test.{far, bar-key}
+use Rattle.certify.specs.ByLayer.{Tabled}
 use Rattle.certify.proofs.Marks.{replicate-at}
 
 -- ---- the first full layer
@@ -75,6 +76,15 @@ module _ (near : List ℕ) (k : ℕ) where
 
       back : (j : ℕ) → full (suc i) j ≡ true → full i j ≡ true
       back j t = let (l, e) = full-true (suc i) j t in full-in i j (omega arith) e
+
+-- ---- the tables of the slots by layers
+
+module _ (near keys : List ℕ) (k : ℕ) (counts lows : List ℕ) (w : Tabled near keys k counts lows) (i : ℕ) (l : i ≤ k) where
+  pub count-at : getD counts i 0 ≡ near-to near k i
+  count-at = rw (w .by-count) (table-at 65 (suc k) 0 (near-to near k) i (omega arith))
+
+  pub low-at : getD lows i 0 ≡ least-key near keys i k
+  low-at = rw (w .by-low) (table-at 65 (suc k) 0 (λ j. least-key near keys j k) i (omega arith))
 
 -- ---- the bars of the layers from j on, `bar` among them; past k there are none
 

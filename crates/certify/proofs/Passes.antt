@@ -7,12 +7,11 @@ use native.Mathlib.Numerals.{add-one}
 use native.Mathlib.Omega.{arith}
 use lib.Dec.{eqb, leb, ltb}
 use lib.ListN.{getD}
-use borrow.Author.Tests.{le-leb, lt-leb, not-true, not-false}
+use borrow.Author.Tests.{not-true, not-false}
 use Rattle.paging.specs.Sets.{each}
 use Rattle.paging.specs.Tests.{clash, isnt, and-in}
 use Rattle.paging.specs.Words.{each-true}
 use Rattle.ranking.specs.Key.{key-of}
-use Rattle.slots.specs.Slots.{near-to}
 
 -- ---- each number below i has passed
 
@@ -33,15 +32,18 @@ passed-all {f} {i} {n} p a b = let e : n ≡ i = omega arith in rw e (sym (p .al
 pub failed : (f : ℕ → Bool) (i n : ℕ) → i < n → f i ≡ false → false ≡ each n f
 failed f i n l e = sym (isnt (each n f) (λ t. clash (each-true n f t i l) e))
 
+-- the same where the loop keeps the answer and goes on
+
+pub each-more : (f : ℕ → Bool) (i : ℕ) (a r : Bool) → a ≡ each i f → r ≡ a && f i → r ≡ each (i + 1) f
+unfolding each
+each-more f i a r e er = rw (add-one i) (rw e at er)
+
+pub each-all : (f : ℕ → Bool) (i n : ℕ) (r : Bool) → i ≤ n → n ≤ i → r ≡ each i f → r ≡ each n f
+each-all f i n r a b e = let same : i ≡ n = omega arith in rw same at e
+
 -- what `has_room` tests of a layer
-abbrev pub roomy : List ℕ → ℕ → ℕ → Bool
-roomy near k j = leb (near-to near k j) j
-
-pub is-roomy : (near : List ℕ) (k j n : ℕ) → n ≡ near-to near k j → n ≤ j → roomy near k j ≡ true
-is-roomy near k j n e l = le-leb (near-to near k j) j (omega arith)
-
-pub not-roomy : (near : List ℕ) (k j n : ℕ) → n ≡ near-to near k j → j < n → roomy near k j ≡ false
-not-roomy near k j n e l = lt-leb (near-to near k j) j (omega arith)
+abbrev pub roomy : List ℕ → ℕ → Bool
+roomy counts j = leb (getD counts j 0) j
 
 -- what `none_late` tests of a page
 abbrev pub timely : List Bool → List ℕ → List ℕ → List ℕ → ℕ → Bool

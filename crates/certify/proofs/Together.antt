@@ -4,18 +4,20 @@ use mathlib.Core.List.{List}
 use mathlib.Core.Path.{_≡_, sym, ap, _∙_}
 use Prim.Native.Nat.{ℕ, suc, _≤_, _<_}
 use native.Mathlib.Omega.{arith}
-use lib.Dec.{eqb, ltb}
+use lib.Dec.{eqb, leb, ltb}
 use lib.ListN.{getD}
 use Rattle.paging.specs.Sets.{each, table}
 use Rattle.paging.specs.Tests.{clash, isnt, same-test}
 use Rattle.paging.specs.Words.{each-true, each-in}
 use Rattle.paging.specs.Tables.{table-at}
 use Rattle.ranking.specs.Key.{key-of}
-use Rattle.slots.specs.Slots.{seated, near-of, keys-of}
+use Rattle.slots.specs.Slots.{seated, near-of, keys-of, near-to}
 use Rattle.certify.specs.Test.{room, bar-key, none-late, certificate}
+use Rattle.certify.specs.ByLayer.{Tabled}
 use Rattle.certify.specs.Tables.{tables-sound}
 use Rattle.certify.specs.Laws.{Parts, sound-parts}
-use Rattle.certify.proofs.Passes.{refused, granted, stop-left, go-on, timely}
+use Rattle.certify.proofs.Passes.{refused, granted, stop-left, go-on, timely, roomy}
+use Rattle.certify.proofs.LayerBars.{count-at}
 
 -- ---- the certificate
 
@@ -75,13 +77,23 @@ module _
     certificate-not r e h = stop-left _ _ (refused r _ (e ∙ late-is) h)
 
     pub certificate-is :
-        (t r : Bool) →
+        (counts lows : List ℕ) (t r : Bool) →
+        Tabled near keys k counts lows →
         t ≡ each N (timely marks layer priority bars) →
         not t ≡ false →
-        r ≡ room near k →
+        r ≡ each (suc k) (roomy counts) →
         r ≡ certificate N k layer priority held
-    unfolding certificate
-    certificate-is t r e h er = go-on r _ _ (granted t _ (e ∙ late-is) h) (er ∙ ap (λ (l : List ℕ). room l k) (w .by-near))
+    unfolding certificate room
+    certificate-is counts lows t r v e h er =
+        go-on r _ _ (granted t _ (e ∙ late-is) h) (er ∙ (room-is ∙ ap (λ (l : List ℕ). room l k) (w .by-near)))
+      where
+        room-is : each (suc k) (roomy counts) ≡ room near k
+        room-is =
+            each-same
+            (suc k)
+            (roomy counts)
+            (λ j. leb (near-to near k j) j)
+            (λ j l. ap (λ (n : ℕ). leb n j) (count-at near keys k counts lows v j (omega arith)))
 
 -- ---- all clauses
 

@@ -1,43 +1,51 @@
-// The soundness test of a run's tables, in flat passes: O(N + k²). That the cached set is the selection is seen by its
+// The soundness test of a run's tables, in flat passes: O(N + k). That the cached set is the selection is seen by its
 // certificate, without building the selection. Assumes nothing.
 ghost use mathlib.Core.Path.{_≡_};
-ghost use mathlib.Core.Bool.{true, false, _||_};
+ghost use mathlib.Core.List.{List};
+ghost use mathlib.Core.Bool.{true, false, _&&_, _||_};
 ghost use Prim.Native.Nat.{ℕ, suc, _<_, _≤_};
 ghost use lib.ListN.{length, getD, replicate};
-ghost use Rattle.paging.specs.Sets.{each, table, _=?_, _<?_};
+ghost use Rattle.paging.specs.Sets.{each, table, _=?_, _<?_, _≤?_};
 ghost use Rattle.ranking.specs.Key.{key-of};
 ghost use Rattle.slots.specs.Slots.{no-page, seated};
-ghost use Rattle.certify.specs.Test.{Narrow, room, bar-key, layers-fit, ends-clear, certificate};
+ghost use Rattle.certify.specs.Test.{Narrow, bar-key, layers-fit, ends-clear, certificate};
 ghost use Rattle.certify.specs.Tables.{seats-fit, tables-sound};
+ghost use Rattle.certify.specs.ByLayer.{Tabled};
 
-// For each j, the slots hold at most j pages of layers up to j.
-pub fn has_room(near: &[u8; 64], slots: u8) -> bool
-    requires { ⌜ slots ≤ 64 ⌝ }
-    ensures { λ r. ⌜ r ≡ room (now (near .entry)) slots ⌝ }
+// Whether there was room before layer j, and is with n pages up to it.
+fn room_at(before: bool, n: u8, j: u8) -> bool
+    ensures { λ r. ⌜ r ≡ (before && n ≤? j) ⌝ }
 {
-    let mut j: u8 = 0;
-    while j <= slots {
-        if (j as usize) < slots::count_to(near, slots as usize, j) {
-            return false;
-        }
-        j += 1;
-    }
-    true
+    if before { n <= j } else { false }
 }
 
-// By layers, the least key up to the first full layer from it on.
-pub fn bars<'a>(near: &'a [u8; 64], keys: &'a [u32; 64], slots: u8) -> [u32; 65]
+// For each j, the slots hold at most j pages of layers up to j: as many as the table says.
+pub fn has_room(counts: &[u8; 65], slots: u8) -> bool
     requires { ⌜ slots ≤ 64 ⌝ }
-    ensures { λ r. ⌜ r ≡ table 65 (suc slots) 0 (bar-key (now (near .entry)) (now (keys .entry)) slots) ⌝ }
+    ensures { λ r. ⌜ r ≡ each (suc slots) (λ j. getD (now (counts .entry)) j 0 ≤? j) ⌝ }
+{
+    let mut room = true;
+    let mut j: u8 = 0;
+    while j <= slots {
+        room = room_at(room, counts[j as usize], j);
+        j += 1;
+    }
+    room
+}
+
+// By layers, the least key up to the first full layer from it on, of the slots whose tables `counts` and `lows` are.
+pub fn bars<'a>(counts: &'a [u8; 65], lows: &'a [u32; 65], slots: u8) -> [u32; 65]
+    requires { ⌜ slots ≤ 64 ⌝ }
+    ensures { λ r. ⌜ ((near keys : List ℕ) → Tabled near keys slots (now (counts .entry)) (now (lows .entry)) → r ≡ table 65 (suc slots) 0 (bar-key near keys slots)) ⌝ }
 {
     let k = slots as usize;
     let mut bars = [0u32; 65];
-    let mut bar = slots::lowest(near, keys, k, slots);
+    let mut bar = lows[k];
     let mut j = k + 1;
     while 0 < j {
         j -= 1;
-        if slots::count_to(near, k, j as u8) == j {
-            bar = slots::lowest(near, keys, k, j as u8);
+        if layers::wide(counts[j]) == j {
+            bar = lows[j];
         }
         bars[j] = bar;
     }
@@ -166,11 +174,13 @@ fn certificate<'a>(
     let k = slots as u8;
     let near = slots::nears(layer, held, slots);
     let keys = slots::keys(priority, held, slots);
-    let limits = bars(&near, &keys, k);
+    let counts = slots::counts(&near, k);
+    let lows = slots::lows(&near, &keys, k);
+    let limits = bars(&counts, &lows, k);
     if !none_late(layer, priority, marks, &limits, pages) {
         return false;
     }
-    has_room(&near, k)
+    has_room(&counts, k)
 }
 
 // The clauses of a sound run that speak of its tables.

@@ -43,3 +43,12 @@ tally-of near k = listed 256 (λ j. count (λ s. getD near s 0 =? j) k)
 unfoldable pub least-key : List ℕ → List ℕ → ℕ → ℕ → ℕ
 least-key near keys j zero = 4294967295
 least-key near keys j (suc n) = min (least-key near keys j n) (if getD near n 0 ≤? j then getD keys n 0 else 4294967295)
+
+-- The same of layer l alone,
+unfoldable pub layer-least : List ℕ → List ℕ → ℕ → ℕ → ℕ
+layer-least near keys l zero = 4294967295
+layer-least near keys l (suc n) = min (layer-least near keys l n) (if getD near n 0 =? l then getD keys n 0 else 4294967295)
+
+-- and of every layer that a byte can name.
+unfoldable pub leasts-of : List ℕ → List ℕ → ℕ → List ℕ
+leasts-of near keys k = listed 256 (λ l. layer-least near keys l k)

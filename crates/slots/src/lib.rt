@@ -3,8 +3,8 @@ ghost use mathlib.Core.Path.{_≡_};
 ghost use mathlib.Core.Bool.{_&&_};
 ghost use Prim.Native.Nat.{ℕ, suc, _<_, _≤_, _-_, _%_, min};
 ghost use lib.ListN.{getD};
-ghost use Rattle.paging.specs.Sets.{first, bit, if_then_else_, _=?_, _≤?_};
-ghost use Rattle.slots.specs.Slots.{no-page, seat, found, near-of, keys-of, near-to, tally-of, least-key};
+ghost use Rattle.paging.specs.Sets.{first, bit, if_then_else_, _=?_, _≤?_, table};
+ghost use Rattle.slots.specs.Slots.{no-page, seat, found, near-of, keys-of, near-to, tally-of, least-key, leasts-of};
 
 // A number that a search found, or that there is none.
 pub enum Found {
@@ -113,6 +113,25 @@ fn tally(near: &[u8; 64], slots: usize) -> [u8; 256]
     sums
 }
 
+// For each j up to `slots`, how many of the first slots hold a page of a layer up to j: a running sum over the layers, O(k) for
+// all j together.
+pub fn counts(near: &[u8; 64], slots: u8) -> [u8; 65]
+    requires { ⌜ slots ≤ 64 ⌝ }
+    ensures { λ r. ⌜ r ≡ table 65 (suc slots) 0 (near-to (now (near .entry)) slots) ⌝ }
+{
+    let k = slots as usize;
+    let sums = tally(near, k);
+    let mut counts = [0u8; 65];
+    let mut n = 0;
+    let mut j = 0;
+    while j <= k {
+        n += sums[j];
+        counts[j] = n;
+        j += 1;
+    }
+    counts
+}
+
 // As `reach`, by the sums of the layers: each j costs one addition.
 fn reach_on(near: &[u8; 64], slots: u8, from: u8) -> Found
     requires { ⌜ slots ≤ 64 ⌝ }
@@ -182,6 +201,39 @@ pub fn lowest<'a>(near: &'a [u8; 64], keys: &'a [u32; 64], slots: usize, j: u8) 
         s += 1;
     }
     least
+}
+
+// The least key of the slots of each layer; the greatest number there is, for a layer that no slot has.
+fn leasts<'a>(near: &'a [u8; 64], keys: &'a [u32; 64], slots: usize) -> [u32; 256]
+    requires { ⌜ slots ≤ 64 ⌝ }
+    ensures { λ r. ⌜ r ≡ leasts-of (now (near .entry)) (now (keys .entry)) slots ⌝ }
+{
+    let mut least: [u32; 256] = [4294967295; 256];
+    let mut s = 0;
+    while s < slots {
+        let l = layers::wide(near[s]);
+        least[l] = smaller(least[l], keys[s]);
+        s += 1;
+    }
+    least
+}
+
+// As `lowest`, for each j up to `slots`: a running minimum over the layers, O(k) for all j together.
+pub fn lows<'a>(near: &'a [u8; 64], keys: &'a [u32; 64], slots: u8) -> [u32; 65]
+    requires { ⌜ slots ≤ 64 ⌝ }
+    ensures { λ r. ⌜ r ≡ table 65 (suc slots) 0 (λ j. least-key (now (near .entry)) (now (keys .entry)) j slots) ⌝ }
+{
+    let k = slots as usize;
+    let least = leasts(near, keys, k);
+    let mut lows = [0u32; 65];
+    let mut low: u32 = 4294967295;
+    let mut j = 0;
+    while j <= k {
+        low = smaller(low, least[j]);
+        lows[j] = low;
+        j += 1;
+    }
+    lows
 }
 
 // The page of a key.
