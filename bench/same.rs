@@ -45,8 +45,13 @@ fn lower(from: u8, x: u8) -> u8 {
     if from <= x { x - 1 } else { x }
 }
 
+// One flat pass, as the library's: the lowest slot that holds the page, 64 where none does.
 fn find(held: &[u16], page: u16) -> Option<usize> {
-    held.iter().position(|&entry| entry == page)
+    let mut at = 64u8;
+    for (s, &entry) in held.iter().enumerate() {
+        at = at.min(if entry == page { s as u8 } else { 64 });
+    }
+    (at < 64).then_some(at as usize)
 }
 
 fn count_to(near: &[u8], j: u8) -> usize {
@@ -129,14 +134,33 @@ fn u32_at(bytes: &[u8], at: usize) -> u32 {
 }
 
 /// By layers, the least key up to the first full layer from it on.
-fn bars(near: &[u8], keys: &[u32], slots: u8) -> [u32; 65] {
+// For each j, how many slots hold a page of a layer up to j, and the least key of those.
+fn tables(near: &[u8], keys: &[u32], slots: usize) -> ([u8; 65], [u32; 65]) {
+    let mut sums = [0u8; 256];
+    let mut least = [NO_KEY; 256];
+    for (&layer, &key) in near.iter().zip(keys) {
+        sums[layer as usize] += 1;
+        least[layer as usize] = least[layer as usize].min(key);
+    }
+    let (mut counts, mut lows) = ([0u8; 65], [0u32; 65]);
+    let (mut count, mut low) = (0, NO_KEY);
+    for j in 0..=slots {
+        count += sums[j];
+        low = low.min(least[j]);
+        counts[j] = count;
+        lows[j] = low;
+    }
+    (counts, lows)
+}
+
+fn bars(counts: &[u8; 65], lows: &[u32; 65], slots: usize) -> [u32; 65] {
     let mut bars = [0; 65];
-    let mut bar = lowest(near, keys, slots);
+    let mut bar = lows[slots];
     for j in (0..=slots).rev() {
-        if count_to(near, j) == j as usize {
-            bar = lowest(near, keys, j);
+        if counts[j] as usize == j {
+            bar = lows[j];
         }
-        bars[j as usize] = bar;
+        bars[j] = bar;
     }
     bars
 }
@@ -192,7 +216,10 @@ impl Run {
         let event = match find(&self.held[..self.slots], page as u16) {
             Some(slot) => {
                 self.hits += 1;
-                self.settle(seats, page, slot);
+                // the page of L_k is alone there: nothing moves
+                if i as usize != self.slots {
+                    self.settle(seats, page, slot);
+                }
                 Event::Hit { slot }
             }
             None => {
@@ -250,15 +277,15 @@ impl Run {
         }
         let seats = Seats::of(self);
         let near = &seats.near[..self.slots];
-        let k = self.slots as u8;
-        let bars = bars(near, &seats.keys[..self.slots], k);
+        let (counts, lows) = tables(near, &seats.keys[..self.slots], self.slots);
+        let bars = bars(&counts, &lows, self.slots);
         for q in 0..self.pages {
             let layer = self.layer[q];
             if !(marks[q] || layer == 0 || key(self.priority[q], q as u16) < bars[layer as usize]) {
                 return false;
             }
         }
-        (0..=k).all(|j| count_to(near, j) <= j as usize)
+        (0..=self.slots).fold(true, |room, j| room & (counts[j] as usize <= j))
     }
 
     fn is_sound(&self) -> bool {

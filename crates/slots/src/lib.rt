@@ -85,7 +85,7 @@ fn within(near: u8, j: u8) -> usize
 }
 
 // How many of the first slots hold a page of a layer up to j.
-pub fn count_to(near: &[u8; 64], slots: usize, j: u8) -> usize
+fn count_to(near: &[u8; 64], slots: usize, j: u8) -> usize
     requires { ⌜ slots ≤ 64 ⌝ }
     ensures { λ r. ⌜ r ≡ near-to (now (near .entry)) slots j ⌝ }
 {
@@ -176,7 +176,7 @@ pub fn reach(near: &[u8; 64], slots: u8, from: u8) -> Found
 }
 
 // The smaller of two numbers.
-pub fn smaller(a: u32, b: u32) -> u32
+fn smaller(a: u32, b: u32) -> u32
     ensures { λ r. ⌜ r ≡ min a b ⌝ }
 {
     if b < a { b } else { a }
