@@ -78,7 +78,7 @@ pub fn keys<'a>(priority: &'a [u16; 1024], held: &'a [u16; 64], slots: usize) ->
 }
 
 // 1 for a layer up to j, else 0.
-fn within(near: u8, j: u8) -> usize
+fn within(near: u8, j: u8) -> u8
     ensures { λ r. ⌜ r ≡ bit (near ≤? j) ⌝ }
 {
     if near <= j { 1 } else { 0 }
@@ -89,13 +89,14 @@ fn count_to(near: &[u8; 64], slots: usize, j: u8) -> usize
     requires { ⌜ slots ≤ 64 ⌝ }
     ensures { λ r. ⌜ r ≡ near-to (now (near .entry)) slots j ⌝ }
 {
-    let mut n = 0;
+    // in bytes, which the compiler adds up sixteen at a time
+    let mut n: u8 = 0;
     let mut s = 0;
     while s < slots {
         n += within(near[s], j);
         s += 1;
     }
-    n
+    n as usize
 }
 
 // How many of the first slots hold a page of each layer.

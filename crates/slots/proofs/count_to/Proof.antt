@@ -5,6 +5,7 @@ use native.Mathlib.Omega.{arith}
 use borrow.Author.Needs.{needs}
 use Rattle.paging.specs.Sets.{count}
 use Rattle.slots.specs.Slots.{near-to}
+use Rattle.slots.specs.Laws.{near-most}
 use Rattle.slots.proofs.Loops.{count-next, count-most}
 use Rattle.slots.proofs.count_to.Statement.{statement}
 use Rattle.slots.proofs.count_to.Tie as tie
@@ -40,6 +41,10 @@ loop-again c = (
   count-next _ _ _ _ _ (c .before .before .before .loop .inv .1) (c .within .ensures),
 )
 
+cast-result : tie.Need-cast-result Inv-loop μ-loop
+cast-result c =
+    omega (arith, c .before .loop .inv .1, near-most (c .before .before .args .near .now) (c .before .loop .s) (c .before .before .args .j))
+
 returns : tie.Need-returns Inv-loop μ-loop
 returns c =
     let a = c .before .before .args in
@@ -58,4 +63,5 @@ count-to-spec =
     add-s
     loop-less
     loop-again
+    cast-result
     returns)

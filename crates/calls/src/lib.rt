@@ -1,10 +1,8 @@
 // Each kind of question: its words are read, its public call is made, and the call's answer written. Assumes nothing.
-use crate::answers;
-use crate::asked;
-use crate::asked::Begun;
-use crate::asked::Paged;
-use crate::asked::Parts;
-use crate::asked::Wanted;
+use asked::Begun;
+use asked::Paged;
+use asked::Parts;
+use asked::Wanted;
 use fields::Value;
 use hex::Count;
 use run::Reading;

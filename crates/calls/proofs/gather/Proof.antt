@@ -3,8 +3,8 @@ use Prim.Native.Nat.{_-_}
 use mathlib.Core.Path.{_≡_}
 use lib.ListN.{length}
 use borrow.Author.Needs.{needs}
-use Rattle.ask.proofs.calls.gather.Statement.{statement}
-use Rattle.ask.proofs.calls.gather.Tie as tie
+use Rattle.calls.proofs.gather.Statement.{statement}
+use Rattle.calls.proofs.gather.Tie as tie
 
 abbrev Inv-loop : tie.InvT-loop
 Inv-loop list₀ pages n₀ q₀ list n q = length list ≡ length list₀

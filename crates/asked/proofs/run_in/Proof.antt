@@ -2,8 +2,8 @@
 use mathlib.Core.Path.{_≡_, sym, _∙_}
 use native.Mathlib.Omega.{arith}
 use borrow.Author.Needs.{needs}
-use Rattle.ask.proofs.asked.run_in.Statement.{statement}
-use Rattle.ask.proofs.asked.run_in.Tie as tie
+use Rattle.asked.proofs.run_in.Statement.{statement}
+use Rattle.asked.proofs.run_in.Tie as tie
 use Rattle.run.specs.Storing.{image-fits, run-pages, run-slots}
 
 refusal-requires : tie.Need-refusal-requires
