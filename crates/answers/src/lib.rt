@@ -1,37 +1,62 @@
 // The words of an answer, written at an offset of a lent buffer; each answers the offset behind it. Assumes nothing.
+ghost use mathlib.Core.Path.{_≡_};
+ghost use Rattle.hex.specs.Room.{placed-all, behind-all};
+ghost use Rattle.answers.specs.Answers.{bad-line, refusal-texts, number-texts, bytes-texts, record-of, record-texts, event-texts};
+ghost use lib.ListN.{take};
+ghost use Rattle.run.specs.Stored.{stored};
 use run::Run;
 use serve::Event;
 
 // A line that is no question.
-pub fn bad(out: &mut [u8], at: usize) -> usize {
+pub fn bad(out: &mut [u8], at: usize) -> usize
+    ensures offset { λ r. ⌜ r ≡ behind-all (now (out .entry)) at bad-line ⌝ }
+    ensures text { λ _. ⌜ now (out .exit) ≡ placed-all (now (out .entry)) at bad-line ⌝ }
+{
     fields::write_word(out, at, b"bad line")
 }
 
 // A refusal alone.
-pub fn refusal(out: &mut [u8], at: usize, number: u8) -> usize {
+pub fn refusal(out: &mut [u8], at: usize, number: u8) -> usize
+    ensures offset { λ r. ⌜ r ≡ behind-all (now (out .entry)) at (refusal-texts number) ⌝ }
+    ensures text { λ _. ⌜ now (out .exit) ≡ placed-all (now (out .entry)) at (refusal-texts number) ⌝ }
+{
     fields::write_number(out, at, number as u64)
 }
 
 // A space and a number.
-pub fn then_number(out: &mut [u8], at: usize, n: u64) -> usize {
+pub fn then_number(out: &mut [u8], at: usize, n: u64) -> usize
+    ensures offset { λ r. ⌜ r ≡ behind-all (now (out .entry)) at (number-texts n) ⌝ }
+    ensures text { λ _. ⌜ now (out .exit) ≡ placed-all (now (out .entry)) at (number-texts n) ⌝ }
+{
     let next = fields::write_word(out, at, b" ");
     fields::write_number(out, next, n)
 }
 
 // A space and bytes.
-pub fn then_bytes(out: &mut [u8], at: usize, bytes: &[u8]) -> usize {
+pub fn then_bytes(out: &mut [u8], at: usize, bytes: &[u8]) -> usize
+    ensures offset { λ r. ⌜ r ≡ behind-all (now (out .entry)) at (bytes-texts (now (bytes .entry))) ⌝ }
+    ensures text { λ _. ⌜ now (out .exit) ≡ placed-all (now (out .entry)) at (bytes-texts (now (bytes .entry))) ⌝ }
+{
     let next = fields::write_word(out, at, b" ");
     fields::write_bytes(out, next, bytes)
 }
 
-// A space and the record of a sound run, which is stored in a buffer first.
-pub fn then_record(out: &mut [u8], at: usize, run: Run, bytes: &mut [u8]) -> usize {
-    let stored = run.store(bytes);
-    then_bytes(out, at, fields::first(bytes, stored.length))
+// A space and the record of a sound run; of any other run a space and no bytes.
+pub fn then_record(out: &mut [u8], at: usize, run: Run) -> usize
+    ensures offset { λ r. ⌜ r ≡ behind-all (now (out .entry)) at (record-texts run) ⌝ }
+    ensures text { λ _. ⌜ now (out .exit) ≡ placed-all (now (out .entry)) at (record-texts run) ⌝ }
+{
+    // The longest record has 36 + 3·1024 + 2·64 bytes.
+    let mut image: [u8; 3236] = [0; 3236];
+    let stored = run.store(&mut image);
+    then_bytes(out, at, fields::first(&image, stored.length))
 }
 
 // What became of a request or a trial.
-pub fn event(out: &mut [u8], at: usize, event: Event, best: u32) -> usize {
+pub fn event(out: &mut [u8], at: usize, event: Event, best: u32) -> usize
+    ensures offset { λ r. ⌜ r ≡ behind-all (now (out .entry)) at (event-texts event best) ⌝ }
+    ensures text { λ _. ⌜ now (out .exit) ≡ placed-all (now (out .entry)) at (event-texts event best) ⌝ }
+{
     match event {
         Event::Hit { slot } => {
             let first = fields::write_word(out, at, b"0 hit");

@@ -29,34 +29,13 @@ fn spare(out: &[u8], at: usize) -> usize {
 }
 
 // Answers the line of which some bytes are held. One byte more than the longest line stands for any longer one.
-fn answer_held(
-    line: &[u8],
-    held: usize,
-    record: &mut [u8],
-    area: &mut [u8],
-    bytes: &mut [u8],
-    list: &mut [u16],
-    priorities: &mut [u16],
-    requests: &mut [u16],
-    out: &mut [u8],
-    at: usize,
-) -> usize {
+fn answer_held(line: &[u8], held: usize, out: &mut [u8], at: usize) -> usize {
     if LONGEST < held {
         let end = answers::bad(out, at);
         let next = fields::write_word(out, end, b"\n");
         return spare(out, next);
     }
-    let end = kinds::answer(
-        fields::first(line, held),
-        record,
-        area,
-        bytes,
-        list,
-        priorities,
-        requests,
-        out,
-        at,
-    );
+    let end = kinds::answer(fields::first(line, held), out, at);
     let next = fields::write_word(out, end, b"\n");
     spare(out, next)
 }
@@ -77,18 +56,7 @@ fn hold(line: &mut [u8], held: usize, part: &[u8]) -> usize {
 }
 
 // Answers the lines that end in a piece of the input, and holds the one that begins there.
-fn take(
-    piece: &[u8],
-    kept: Kept,
-    line: &mut [u8],
-    record: &mut [u8],
-    area: &mut [u8],
-    bytes: &mut [u8],
-    list: &mut [u16],
-    priorities: &mut [u16],
-    requests: &mut [u16],
-    out: &mut [u8],
-) -> Kept {
+fn take(piece: &[u8], kept: Kept, line: &mut [u8], out: &mut [u8]) -> Kept {
     let mut held = kept.held;
     let mut at = kept.at;
     let mut from = 0;
@@ -103,18 +71,7 @@ fn take(
             };
         }
         from = end + 1;
-        at = answer_held(
-            line,
-            held,
-            record,
-            area,
-            bytes,
-            list,
-            priorities,
-            requests,
-            out,
-            at,
-        );
+        at = answer_held(line, held, out, at);
         held = 0;
     }
     Kept {
@@ -125,18 +82,7 @@ fn take(
 }
 
 // Reads a piece of the input and answers the lines that end in it. A read that fails ends the input.
-fn read_some(
-    piece: &mut [u8],
-    kept: Kept,
-    line: &mut [u8],
-    record: &mut [u8],
-    area: &mut [u8],
-    bytes: &mut [u8],
-    list: &mut [u16],
-    priorities: &mut [u16],
-    requests: &mut [u16],
-    out: &mut [u8],
-) -> Kept {
+fn read_some(piece: &mut [u8], kept: Kept, line: &mut [u8], out: &mut [u8]) -> Kept {
     let got = libc::read(0, piece);
     if got <= 0 {
         return Kept {
@@ -146,50 +92,18 @@ fn read_some(
         };
     }
     let n = io::count(got, piece);
-    take(
-        fields::first(piece, n),
-        kept,
-        line,
-        record,
-        area,
-        bytes,
-        list,
-        priorities,
-        requests,
-        out,
-    )
+    take(fields::first(piece, n), kept, line, out)
 }
 
 // Answers a last line that has no end, and writes out what answers are kept.
-fn finish(
-    kept: Kept,
-    line: &[u8],
-    record: &mut [u8],
-    area: &mut [u8],
-    bytes: &mut [u8],
-    list: &mut [u16],
-    priorities: &mut [u16],
-    requests: &mut [u16],
-    out: &mut [u8],
-) {
+fn finish(kept: Kept, line: &[u8], out: &mut [u8]) {
     let held = kept.held;
     let at = kept.at;
     if held == 0 {
         io::write_all(1, fields::first(out, at));
         return;
     }
-    let end = answer_held(
-        line,
-        held,
-        record,
-        area,
-        bytes,
-        list,
-        priorities,
-        requests,
-        out,
-        at,
-    );
+    let end = answer_held(line, held, out, at);
     io::write_all(1, fields::first(out, end));
 }
 
@@ -202,17 +116,7 @@ fn left(turns: u64, more: bool) -> u64
 }
 
 // Answers every line that has an end. Nothing says that an input ends, so the pieces are counted down from a number that none has.
-fn answer_all(
-    piece: &mut [u8],
-    line: &mut [u8],
-    record: &mut [u8],
-    area: &mut [u8],
-    bytes: &mut [u8],
-    list: &mut [u16],
-    priorities: &mut [u16],
-    requests: &mut [u16],
-    out: &mut [u8],
-) -> Kept {
+fn answer_all(piece: &mut [u8], line: &mut [u8], out: &mut [u8]) -> Kept {
     let mut kept = Kept {
         held: 0,
         at: 0,
@@ -220,18 +124,7 @@ fn answer_all(
     };
     let mut turns = u64::MAX;
     while turns > 0 {
-        kept = read_some(
-            piece,
-            kept,
-            line,
-            record,
-            area,
-            bytes,
-            list,
-            priorities,
-            requests,
-            out,
-        );
+        kept = read_some(piece, kept, line, out);
         turns = left(turns, kept.more);
     }
     kept
@@ -244,20 +137,6 @@ fn line_buffer() -> [u8; 262145]
     [0; 262145]
 }
 
-// Room for the bytes in any word of a line.
-fn byte_buffer() -> [u8; 131072]
-    ensures { λ r. ⌜ 131072 ≡ length r ⌝ }
-{
-    [0; 131072]
-}
-
-// Room for the numbers in any word of a line.
-fn number_buffer() -> [u16; 131072]
-    ensures { λ r. ⌜ 131072 ≡ length r ⌝ }
-{
-    [0; 131072]
-}
-
 // Room for the longest answer behind many others.
 fn out_buffer() -> [u8; 600000]
     ensures { λ r. ⌜ 600000 ≡ length r ⌝ }
@@ -268,33 +147,7 @@ fn out_buffer() -> [u8; 600000]
 fn main() {
     let mut piece = io::large_buffer();
     let mut line = line_buffer();
-    let mut record = byte_buffer();
-    let mut area = byte_buffer();
-    let mut bytes = byte_buffer();
-    let mut list = number_buffer();
-    let mut priorities = number_buffer();
-    let mut requests = number_buffer();
     let mut out = out_buffer();
-    let kept = answer_all(
-        &mut piece,
-        &mut line,
-        &mut record,
-        &mut area,
-        &mut bytes,
-        &mut list,
-        &mut priorities,
-        &mut requests,
-        &mut out,
-    );
-    finish(
-        kept,
-        &line,
-        &mut record,
-        &mut area,
-        &mut bytes,
-        &mut list,
-        &mut priorities,
-        &mut requests,
-        &mut out,
-    );
+    let kept = answer_all(&mut piece, &mut line, &mut out);
+    finish(kept, &line, &mut out);
 }

@@ -1,75 +1,142 @@
-// Each kind of question: its words are read, its public call is made, and the call's answer written. Assumes nothing.
-use asked::Begun;
-use asked::Paged;
-use asked::Parts;
-use asked::Wanted;
+// The questions about a run: the words of a line are read, the public call is made, and its answer written at an offset, which
+// the offset behind it answers. Assumes nothing.
+ghost use mathlib.Core.Path.{_≡_};
+ghost use mathlib.Core.List.{_++_};
+ghost use Prim.Native.Nat.{_+_, _<_};
+ghost use lib.ListN.{length, set};
+ghost use Rattle.paging.specs.Sets.{if_then_else_, bit};
+ghost use Rattle.words.specs.Words.{put};
+ghost use Rattle.hex.specs.Room.{placed-all, behind-all};
+ghost use Rattle.fields.specs.Fields.{list-in};
+ghost use Rattle.asked.specs.Asked.{most-in-word};
+ghost use Rattle.answers.specs.Answers.{number-texts, unless-refused, with-list};
+ghost use Rattle.calls.specs.Calls.{pages-of, started-texts, given-texts, prioritised-texts, served-texts};
+ghost use Rattle.calls.specs.Calls.{start-answer, request-answer, trial-answer, layer-answer, certain-answer, selection-answer, sound-answer};
 use fields::Value;
 use hex::Count;
-use run::Reading;
 use run::Run;
+use run::Served;
 use run::Started;
 use serve::Event;
-use trace::Traced;
 
 // The answer of a start.
-fn started(start: Started, bytes: &mut [u8], out: &mut [u8], at: usize) -> usize {
-    let refusal = start.refusal;
-    let next = answers::refusal(out, at, refusal);
-    if refusal != 0 {
+fn started(start: Started, out: &mut [u8], at: usize) -> usize
+    ensures offset { λ r. ⌜ r ≡ behind-all (now (out .entry)) at (started-texts start) ⌝ }
+    ensures text { λ _. ⌜ now (out .exit) ≡ placed-all (now (out .entry)) at (started-texts start) ⌝ }
+{
+    let next = answers::refusal(out, at, start.refusal);
+    if start.refusal != 0 {
         return next;
     }
-    answers::then_record(out, next, start.run, bytes)
+    answers::then_record(out, next, start.run)
 }
 
-// start N K LIST PRIORITIES
-pub fn start(
-    line: &[u8],
-    list: &mut [u16],
-    priorities: &mut [u16],
-    bytes: &mut [u8],
+// A start with the priorities of a list.
+fn start_given<'a>(
+    pages: usize,
+    slots: usize,
+    list: &'a [u16],
+    word: &'a [u8],
     out: &mut [u8],
     at: usize,
-) -> usize {
-    let begun = asked::read_start(line, list, priorities);
-    if !begun.good {
+) -> usize
+    ensures offset { λ r. ⌜ r ≡ behind-all (now (out .entry)) at (given-texts pages slots (now (list .entry)) (now (word .entry))) ⌝ }
+    ensures text { λ _. ⌜ now (out .exit) ≡ placed-all (now (out .entry)) at (given-texts pages slots (now (list .entry)) (now (word .entry))) ⌝ }
+{
+    let mut priorities = asked::number_room();
+    let count = fields::list(word, &mut priorities);
+    let Count::Of(given) = count else {
         return answers::bad(out, at);
-    }
-    let listed = fields::first_numbers(list, begun.listed);
-    if begun.default {
-        return started(
-            Run::start_default(begun.pages, begun.slots, listed),
-            bytes,
-            out,
-            at,
-        );
-    }
-    let given = fields::first_numbers(priorities, begun.given);
+    };
     started(
-        Run::start(begun.pages, begun.slots, listed, given),
-        bytes,
+        Run::start(
+            pages,
+            slots,
+            list,
+            fields::first_numbers(&priorities, given),
+        ),
         out,
         at,
     )
 }
 
-// request RECORD PAGE
-pub fn request(line: &[u8], bytes: &mut [u8], out: &mut [u8], at: usize) -> usize {
-    let paged = asked::read_paged(line, bytes);
-    if !paged.good {
-        return answers::bad(out, at);
+// A start with a word for its priorities: `default`, or a list.
+fn start_by<'a>(
+    pages: usize,
+    slots: usize,
+    list: &'a [u16],
+    word: &'a [u8],
+    out: &mut [u8],
+    at: usize,
+) -> usize
+    ensures offset { λ r. ⌜ r ≡ behind-all (now (out .entry)) at (prioritised-texts pages slots (now (list .entry)) (now (word .entry))) ⌝ }
+    ensures text { λ _. ⌜ now (out .exit) ≡ placed-all (now (out .entry)) at (prioritised-texts pages slots (now (list .entry)) (now (word .entry))) ⌝ }
+{
+    if check::same(word, b"default") {
+        return started(Run::start_default(pages, slots, list), out, at);
     }
-    let served = paged.run.request(paged.page);
+    start_given(pages, slots, list, word, out, at)
+}
+
+// start N K LIST PRIORITIES
+pub fn start(line: &[u8], out: &mut [u8], at: usize) -> usize
+    ensures offset { λ r. ⌜ r ≡ behind-all (now (out .entry)) at (start-answer (now (line .entry))) ⌝ }
+    ensures text { λ _. ⌜ now (out .exit) ≡ placed-all (now (out .entry)) at (start-answer (now (line .entry))) ⌝ }
+{
+    let first = asked::read_number(fields::word(line, 1));
+    let Value::Is(pages) = first else {
+        return answers::bad(out, at);
+    };
+    let second = asked::read_number(fields::word(line, 2));
+    let Value::Is(slots) = second else {
+        return answers::bad(out, at);
+    };
+    let mut list = asked::number_room();
+    let third = fields::list(fields::word(line, 3), &mut list);
+    let Count::Of(listed) = third else {
+        return answers::bad(out, at);
+    };
+    start_by(
+        pages as usize,
+        slots as usize,
+        fields::first_numbers(&list, listed),
+        fields::word(line, 4),
+        out,
+        at,
+    )
+}
+
+// The answer of a request: the event, and unless it is a refusal the next run's record.
+fn answered(served: Served, out: &mut [u8], at: usize) -> usize
+    ensures offset { λ r. ⌜ r ≡ behind-all (now (out .entry)) at (served-texts served) ⌝ }
+    ensures text { λ _. ⌜ now (out .exit) ≡ placed-all (now (out .entry)) at (served-texts served) ⌝ }
+{
     let event = served.event;
     let next = answers::event(out, at, event, served.best);
     if let Event::Refused { number: _ } = event {
         return next;
     }
-    answers::then_record(out, next, served.run, bytes)
+    answers::then_record(out, next, served.run)
+}
+
+// request RECORD PAGE
+pub fn request(line: &[u8], out: &mut [u8], at: usize) -> usize
+    ensures offset { λ r. ⌜ r ≡ behind-all (now (out .entry)) at (request-answer (now (line .entry))) ⌝ }
+    ensures text { λ _. ⌜ now (out .exit) ≡ placed-all (now (out .entry)) at (request-answer (now (line .entry))) ⌝ }
+{
+    let paged = asked::read_paged(line);
+    if !paged.good {
+        return answers::bad(out, at);
+    }
+    answered(paged.run.request(paged.page), out, at)
 }
 
 // trial RECORD PAGE
-pub fn trial(line: &[u8], bytes: &mut [u8], out: &mut [u8], at: usize) -> usize {
-    let paged = asked::read_paged(line, bytes);
+pub fn trial(line: &[u8], out: &mut [u8], at: usize) -> usize
+    ensures offset { λ r. ⌜ r ≡ behind-all (now (out .entry)) at (trial-answer (now (line .entry))) ⌝ }
+    ensures text { λ _. ⌜ now (out .exit) ≡ placed-all (now (out .entry)) at (trial-answer (now (line .entry))) ⌝ }
+{
+    let paged = asked::read_paged(line);
     if !paged.good {
         return answers::bad(out, at);
     }
@@ -78,48 +145,63 @@ pub fn trial(line: &[u8], bytes: &mut [u8], out: &mut [u8], at: usize) -> usize 
     answers::event(out, at, event, served.best)
 }
 
+// A refusal, and where it is 0 a number behind it.
+fn number_unless(refusal: u8, n: u64, out: &mut [u8], at: usize) -> usize
+    ensures offset { λ r. ⌜ r ≡ behind-all (now (out .entry)) at (unless-refused refusal (number-texts n)) ⌝ }
+    ensures text { λ _. ⌜ now (out .exit) ≡ placed-all (now (out .entry)) at (unless-refused refusal (number-texts n)) ⌝ }
+{
+    let next = answers::refusal(out, at, refusal);
+    if refusal != 0 {
+        return next;
+    }
+    answers::then_number(out, next, n)
+}
+
 // layer RECORD PAGE
-pub fn layer(line: &[u8], bytes: &mut [u8], out: &mut [u8], at: usize) -> usize {
-    let paged = asked::read_paged(line, bytes);
+pub fn layer(line: &[u8], out: &mut [u8], at: usize) -> usize
+    ensures offset { λ r. ⌜ r ≡ behind-all (now (out .entry)) at (layer-answer (now (line .entry))) ⌝ }
+    ensures text { λ _. ⌜ now (out .exit) ≡ placed-all (now (out .entry)) at (layer-answer (now (line .entry))) ⌝ }
+{
+    let paged = asked::read_paged(line);
     if !paged.good {
         return answers::bad(out, at);
     }
     let answer = paged.run.layer(paged.page);
-    let next = answers::refusal(out, at, answer.refusal);
-    if answer.refusal != 0 {
-        return next;
-    }
-    answers::then_number(out, next, answer.layer as u64)
+    number_unless(answer.refusal, answer.layer as u64, out, at)
 }
 
 // certain RECORD PAGE
-pub fn certain(line: &[u8], bytes: &mut [u8], out: &mut [u8], at: usize) -> usize {
-    let paged = asked::read_paged(line, bytes);
+pub fn certain(line: &[u8], out: &mut [u8], at: usize) -> usize
+    ensures offset { λ r. ⌜ r ≡ behind-all (now (out .entry)) at (certain-answer (now (line .entry))) ⌝ }
+    ensures text { λ _. ⌜ now (out .exit) ≡ placed-all (now (out .entry)) at (certain-answer (now (line .entry))) ⌝ }
+{
+    let paged = asked::read_paged(line);
     if !paged.good {
         return answers::bad(out, at);
     }
     let answer = paged.run.certain(paged.page);
-    let next = answers::refusal(out, at, answer.refusal);
-    if answer.refusal != 0 {
-        return next;
-    }
-    answers::then_number(out, next, answer.certain as u64)
+    number_unless(answer.refusal, answer.certain as u64, out, at)
 }
 
 // Puts a page that is in a set behind the pages of a list, and answers how many there are.
-fn put_page(list: &mut [u16], n: usize, page: u16, is_in: bool) -> usize {
-    if !is_in {
-        return n;
+fn put_page(list: &mut [u16], n: usize, page: u16, is_in: bool) -> usize
+    requires { ⌜ n < length (now list) ⌝ }
+    ensures count { λ r. ⌜ r ≡ n + bit is_in ⌝ }
+    ensures numbers { λ _. ⌜ now (list .exit) ≡ (if is_in then set (now (list .entry)) n page else now (list .entry)) ⌝ }
+{
+    if is_in {
+        list[n] = page;
+        return n + 1;
     }
-    if list.len() <= n {
-        return n;
-    }
-    list[n] = page;
-    n + 1
+    n
 }
 
 // The pages of a set, in rising order, at the start of a buffer; answers how many.
-fn gather(pages: [bool; 1024], list: &mut [u16]) -> usize {
+fn gather(pages: &[bool], list: &mut [u16]) -> usize
+    requires { ⌜ (length (now pages) ≡ 1024) × (length (now list) ≡ 1024) ⌝ }
+    ensures count { λ r. ⌜ r ≡ length (pages-of (now (pages .entry))) ⌝ }
+    ensures numbers { λ _. ⌜ now (list .exit) ≡ put (now (list .entry)) 0 (pages-of (now (pages .entry))) ⌝ }
+{
     let mut n = 0;
     let mut q: u16 = 0;
     while q < 1024 {
@@ -130,14 +212,11 @@ fn gather(pages: [bool; 1024], list: &mut [u16]) -> usize {
 }
 
 // selection RECORD
-pub fn selection(
-    line: &[u8],
-    bytes: &mut [u8],
-    list: &mut [u16],
-    out: &mut [u8],
-    at: usize,
-) -> usize {
-    let described = asked::read_run(fields::word(line, 1), bytes);
+pub fn selection(line: &[u8], out: &mut [u8], at: usize) -> usize
+    ensures offset { λ r. ⌜ r ≡ behind-all (now (out .entry)) at (selection-answer (now (line .entry))) ⌝ }
+    ensures text { λ _. ⌜ now (out .exit) ≡ placed-all (now (out .entry)) at (selection-answer (now (line .entry))) ⌝ }
+{
+    let described = asked::read_run(fields::word(line, 1));
     if !described.good {
         return answers::bad(out, at);
     }
@@ -146,257 +225,20 @@ pub fn selection(
         return answers::refusal(out, at, answer.refusal);
     }
     let pages = answer.pages;
-    let n = gather(pages, list);
+    let mut list: [u16; 1024] = [0; 1024];
+    let n = gather(&pages, &mut list);
     let next = fields::write_word(out, at, b"0 ");
-    fields::write_list(out, next, fields::first_numbers(list, n))
+    fields::write_list(out, next, fields::first_numbers(&list, n))
 }
 
 // sound RECORD
-pub fn sound(line: &[u8], bytes: &mut [u8], out: &mut [u8], at: usize) -> usize {
-    let described = asked::read_run(fields::word(line, 1), bytes);
+pub fn sound(line: &[u8], out: &mut [u8], at: usize) -> usize
+    ensures offset { λ r. ⌜ r ≡ behind-all (now (out .entry)) at (sound-answer (now (line .entry))) ⌝ }
+    ensures text { λ _. ⌜ now (out .exit) ≡ placed-all (now (out .entry)) at (sound-answer (now (line .entry))) ⌝ }
+{
+    let described = asked::read_run(fields::word(line, 1));
     if !described.good {
         return answers::bad(out, at);
     }
     fields::write_number(out, at, described.run.is_sound() as u64)
-}
-
-// The answer of a fill of an area.
-fn filled(
-    run: Run,
-    page: usize,
-    area: &mut [u8],
-    bytes: &[u8],
-    out: &mut [u8],
-    at: usize,
-) -> usize {
-    let refusal = frames::fill(run, page, area, bytes);
-    let next = answers::refusal(out, at, refusal);
-    if refusal != 0 {
-        return next;
-    }
-    answers::then_bytes(out, next, area)
-}
-
-// The same over what was read: the first bytes of both buffers.
-fn fill_parts(
-    paged: Paged,
-    parts: Parts,
-    area: &mut [u8],
-    bytes: &[u8],
-    out: &mut [u8],
-    at: usize,
-) -> usize {
-    let size = parts.size;
-    if area.len() < size {
-        return answers::bad(out, at);
-    }
-    filled(
-        paged.run,
-        paged.page,
-        &mut area[0..size],
-        fields::first(bytes, parts.given),
-        out,
-        at,
-    )
-}
-
-// fill RECORD PAGE AREA BYTES
-pub fn fill(
-    line: &[u8],
-    record: &mut [u8],
-    area: &mut [u8],
-    bytes: &mut [u8],
-    out: &mut [u8],
-    at: usize,
-) -> usize {
-    let paged = asked::read_paged(line, record);
-    if !paged.good {
-        return answers::bad(out, at);
-    }
-    let parts = asked::read_parts(line, area, bytes);
-    if !parts.good {
-        return answers::bad(out, at);
-    }
-    fill_parts(paged, parts, area, bytes, out, at)
-}
-
-// look RECORD PAGE AREA
-pub fn look(line: &[u8], record: &mut [u8], area: &mut [u8], out: &mut [u8], at: usize) -> usize {
-    let paged = asked::read_paged(line, record);
-    if !paged.good {
-        return answers::bad(out, at);
-    }
-    let third = fields::bytes(fields::word(line, 3), area);
-    let Count::Of(size) = third else {
-        return answers::bad(out, at);
-    };
-    let run = paged.run;
-    let given = fields::first(area, size);
-    let number = frames::look_refusal(run, paged.page, given);
-    let next = answers::refusal(out, at, number);
-    answers::then_bytes(out, next, frames::look(run, paged.page, given))
-}
-
-// The answer of the trace reader.
-fn trace_read(traced: Traced, bytes: &mut [u8], out: &mut [u8], at: usize) -> usize {
-    let first = answers::refusal(out, at, traced.refusal);
-    if traced.refusal != 0 {
-        return first;
-    }
-    let second = answers::then_number(out, first, traced.requests as u64);
-    let third = answers::then_number(out, second, traced.offset as u64);
-    answers::then_record(out, third, traced.run, bytes)
-}
-
-// readtrace BYTES
-pub fn readtrace(line: &[u8], bytes: &mut [u8], out: &mut [u8], at: usize) -> usize {
-    let count = fields::bytes(fields::word(line, 1), bytes);
-    let Count::Of(size) = count else {
-        return answers::bad(out, at);
-    };
-    let traced = trace::read(fields::first(bytes, size));
-    trace_read(traced, bytes, out, at)
-}
-
-// The answer of a writer: how much it wrote, and the whole buffer.
-fn written(length: usize, refusal: u8, buffer: &[u8], out: &mut [u8], at: usize) -> usize {
-    let first = answers::refusal(out, at, refusal);
-    if refusal != 0 {
-        return first;
-    }
-    let second = answers::then_number(out, first, length as u64);
-    answers::then_bytes(out, second, buffer)
-}
-
-// The answer of the trace writer, over the whole of a buffer.
-fn trace_written<'a>(
-    begun: Begun,
-    list: &'a [u16],
-    priorities: &'a [u16],
-    requests: &'a [u16],
-    buffer: &mut [u8],
-    out: &mut [u8],
-    at: usize,
-) -> usize {
-    if begun.default {
-        let done = trace::write_default(begun.pages, begun.slots, list, requests, buffer);
-        return written(done.length, done.refusal, buffer, out, at);
-    }
-    let done = trace::write(begun.pages, begun.slots, list, priorities, requests, buffer);
-    written(done.length, done.refusal, buffer, out, at)
-}
-
-// The same over what was read: the first entries of the lists, and the first bytes of the buffer.
-fn trace_wanted<'a>(
-    begun: Begun,
-    wanted: Wanted,
-    list: &'a [u16],
-    priorities: &'a [u16],
-    requests: &'a [u16],
-    buffer: &mut [u8],
-    out: &mut [u8],
-    at: usize,
-) -> usize {
-    let size = wanted.size;
-    if buffer.len() < size {
-        return answers::bad(out, at);
-    }
-    trace_written(
-        begun,
-        fields::first_numbers(list, begun.listed),
-        fields::first_numbers(priorities, begun.given),
-        fields::first_numbers(requests, wanted.requests),
-        &mut buffer[0..size],
-        out,
-        at,
-    )
-}
-
-// writetrace N K LIST PRIORITIES REQUESTS BUFFER
-pub fn writetrace(
-    line: &[u8],
-    list: &mut [u16],
-    priorities: &mut [u16],
-    requests: &mut [u16],
-    buffer: &mut [u8],
-    out: &mut [u8],
-    at: usize,
-) -> usize {
-    let begun = asked::read_start(line, list, priorities);
-    if !begun.good {
-        return answers::bad(out, at);
-    }
-    let wanted = asked::read_wanted(line, requests, buffer);
-    if !wanted.good {
-        return answers::bad(out, at);
-    }
-    trace_wanted(begun, wanted, list, priorities, requests, buffer, out, at)
-}
-
-// readimage BYTES
-pub fn readimage(line: &[u8], bytes: &mut [u8], out: &mut [u8], at: usize) -> usize {
-    let count = fields::bytes(fields::word(line, 1), bytes);
-    let Count::Of(size) = count else {
-        return answers::bad(out, at);
-    };
-    let restored = Run::blank().restore(fields::first(bytes, size));
-    let reading = restored.event;
-    match reading {
-        Reading::Accepted => {
-            let next = answers::refusal(out, at, 0);
-            answers::then_record(out, next, restored.run, bytes)
-        }
-        Reading::Refused { number } => answers::refusal(out, at, number),
-    }
-}
-
-// The answer of the image writer, over the whole of a buffer.
-fn stored(run: Run, buffer: &mut [u8], out: &mut [u8], at: usize) -> usize {
-    let done = run.store(buffer);
-    written(done.length, done.refusal, buffer, out, at)
-}
-
-// writeimage RECORD BUFFER
-pub fn writeimage(
-    line: &[u8],
-    record: &mut [u8],
-    buffer: &mut [u8],
-    out: &mut [u8],
-    at: usize,
-) -> usize {
-    let described = asked::read_run(fields::word(line, 1), record);
-    if !described.good {
-        return answers::bad(out, at);
-    }
-    let count = fields::bytes(fields::word(line, 2), buffer);
-    let Count::Of(size) = count else {
-        return answers::bad(out, at);
-    };
-    if buffer.len() < size {
-        return answers::bad(out, at);
-    }
-    stored(described.run, &mut buffer[0..size], out, at)
-}
-
-// The answer of the board entry, over the whole of a buffer.
-fn boarded(image: &mut [u8], page: u32, out: &mut [u8], at: usize) -> usize {
-    let packed = board::timonedra_serve(image, page);
-    let next = fields::write_number(out, at, packed as u64);
-    answers::then_bytes(out, next, image)
-}
-
-// board BYTES PAGE
-pub fn serve_board(line: &[u8], bytes: &mut [u8], out: &mut [u8], at: usize) -> usize {
-    let count = fields::bytes(fields::word(line, 1), bytes);
-    let Count::Of(size) = count else {
-        return answers::bad(out, at);
-    };
-    let number = asked::read_number(fields::word(line, 2));
-    let Value::Is(page) = number else {
-        return answers::bad(out, at);
-    };
-    if bytes.len() < size {
-        return answers::bad(out, at);
-    }
-    boarded(&mut bytes[0..size], (page % 4294967296) as u32, out, at)
 }

@@ -1,2 +1,3 @@
 -- What the functions' proofs share. Assumes nothing.
 pub mod Steps
+pub mod Lists

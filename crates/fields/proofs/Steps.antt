@@ -7,10 +7,10 @@ use native.Mathlib.Numerals.{add-one}
 use native.Mathlib.Omega.{arith}
 use borrow.Author.Tests.{le-leb, lt-leb, eq-eqb, ne-eqb}
 use lib.ListN.{length, getD, set, take, drop, drop-of-length-le}
-use lib.Seq.{drop-cons, drop-drop, length-take-le, set-split, take-all, take-suc}
+use lib.Seq.{drop-cons, drop-drop, length-take-le, take-all, take-suc}
 use Rattle.paging.specs.Sets.{_≤?_, _=?_}
 use Rattle.words.specs.Words.{put}
-use Rattle.words.specs.Laws.{put-then}
+use Rattle.words.specs.Laws.{put-then, take-put}
 use Rattle.text.specs.Laws.{value-of}
 use Rattle.hex.specs.declared.Count.{Count}
 use Rattle.hex.specs.declared.Count.the-variants.{Of}
@@ -19,6 +19,7 @@ use Rattle.hex.specs.Hex.{digits, count-read, bytes-read}
 use Rattle.hex.specs.Room.{placed, behind}
 use Rattle.hex.specs.Laws.{digits-length}
 use Rattle.fields.specs.declared.Value.the-variants.{Is, Refused}
+use Rattle.fields.specs.Laws.{set-put}
 use Rattle.fields.specs.Fields.{before, word-of, separators, all-decimal, number-from, number-of, none-word, bytes-count, bytes-after, bytes-word}
 
 -- ---- the loops that look for a separator, and count them
@@ -93,6 +94,18 @@ first-some l n =
     let size : n - 0 ≡ n = omega arith in
     rw size
 
+-- what was put at the start of a buffer is its first part
+pub first-put :
+    (s d t : List ℕ) (n : ℕ) (w : List ℕ) → length d ≤ length s → n ≡ 0 + length d → t ≡ put s 0 d → w ≡ take n t → w ≡ d
+first-put s d t n w l e p q = q ∙ rw (e, p) (take-put s 0 d (omega arith))
+
+pub text-told :
+    (s : List ℕ) (at : ℕ) (w d : List ℕ) (r : ℕ) (last : List ℕ) →
+    w ≡ d →
+    (r ≡ behind (length w) s at w) × (last ≡ placed (length w) s at w) →
+    (r ≡ behind (length d) s at d) × (last ≡ placed (length d) s at d)
+text-told s at w d r last e p = rw e at p
+
 -- ---- the loop that reads a number
 
 value-grows : (n : ℕ) (cs : List ℕ) → n ≤ value-of n cs
@@ -137,10 +150,6 @@ number-large most n cs h =
     rw (and-fails (all-decimal cs) (value-of n cs ≤? most) (lt-leb (value-of n cs) most more))
 
 -- ---- the loop that copies a word
-
-set-put : (s : List ℕ) (i d : ℕ) → i < length s → set s i d ≡ put s i (d ∷ [])
-unfolding put
-set-put s i d l = rw (add-one i) (set-split s i d l)
 
 module _ (s : List ℕ) (at : ℕ) (word : List ℕ) where
   pub copy-more :

@@ -3,10 +3,11 @@ ghost use mathlib.Core.Path.{_≡_};
 ghost use Prim.Native.Nat.{suc, _+_, _-_, _≤_};
 ghost use lib.ListN.{length, take, drop};
 ghost use Rattle.words.specs.Words.{put};
-ghost use Rattle.hex.specs.Room.{placed, behind};
+ghost use Rattle.hex.specs.Room.{placed, behind, placed-all, behind-all};
 ghost use Rattle.text.specs.Text.{decimal};
 ghost use Rattle.fields.specs.Fields.{before, word-of, separators, number-of};
 ghost use Rattle.fields.specs.Fields.{none-word, bytes-count, bytes-after, bytes-word};
+ghost use Rattle.fields.specs.Fields.{list-in, count-of, list-after, list-texts, more-texts};
 use hex::Count;
 
 // A number that a word stands for.
@@ -132,7 +133,10 @@ fn is_none(word: &[u8]) -> bool
 }
 
 // Reads a list of 16-bit numbers, parted by single commas, into a buffer. What is no list, or has no room, is refused.
-pub fn list(word: &[u8], out: &mut [u16]) -> Count {
+pub fn list(word: &[u8], out: &mut [u16]) -> Count
+    ensures count { λ r. ⌜ r ≡ count-of (list-in (length (now (out .entry))) (now (word .entry))) ⌝ }
+    ensures numbers { λ _. ⌜ now (out .exit) ≡ list-after (now (word .entry)) (now (out .entry)) ⌝ }
+{
     if is_none(word) {
         return Count::Of(0);
     }
@@ -195,30 +199,30 @@ fn copy(out: &mut [u8], at: usize, word: &[u8])
     }
 }
 
-// Writes a number in decimal at an offset, and answers the offset behind it. It asks for the room of the longest number.
+// Writes a number in decimal at an offset, and answers the offset behind it.
 pub fn write_number(out: &mut [u8], at: usize, n: u64) -> usize
-    ensures offset { λ r. ⌜ r ≡ behind 20 (now (out .entry)) at (decimal n) ⌝ }
-    ensures text { λ _. ⌜ now (out .exit) ≡ placed 20 (now (out .entry)) at (decimal n) ⌝ }
+    ensures offset { λ r. ⌜ r ≡ behind (length (decimal n)) (now (out .entry)) at (decimal n) ⌝ }
+    ensures text { λ _. ⌜ now (out .exit) ≡ placed (length (decimal n)) (now (out .entry)) at (decimal n) ⌝ }
 {
-    if out.len() < at {
-        return at;
-    }
-    if out.len() - at < 20 {
-        return at;
-    }
-    text::write_number(out, at, n)
+    // How many digits there are is known once they are written, and without room nothing may be.
+    let mut digits: [u8; 20] = [0; 20];
+    let count = text::write_number(&mut digits, 0, n);
+    write_word(out, at, first(&digits, count))
 }
 
-fn wide(x: u16) -> u64 {
+// A number of a list as a wide one; as a function, since that an entry is below 2^16 is known of an argument.
+fn wide(x: u16) -> u64
+    ensures { λ r. ⌜ r ≡ x ⌝ }
+{
     x as u64
 }
 
-// Writes a list of numbers at an offset, and answers the offset behind it.
-pub fn write_list(out: &mut [u8], at: usize, list: &[u16]) -> usize {
-    if list.len() == 0 {
-        return write_word(out, at, b"-");
-    }
-    let mut next = write_number(out, at, wide(list[0]));
+// Writes the numbers of a list from its second on, each behind a comma, and answers the offset behind them.
+fn write_more(out: &mut [u8], at: usize, list: &[u16]) -> usize
+    ensures offset { λ r. ⌜ r ≡ behind-all (now (out .entry)) at (more-texts (drop 1 (now (list .entry)))) ⌝ }
+    ensures text { λ _. ⌜ now (out .exit) ≡ placed-all (now (out .entry)) at (more-texts (drop 1 (now (list .entry)))) ⌝ }
+{
+    let mut next = at;
     let mut i = 1;
     while i < list.len() {
         next = write_word(out, next, b",");
@@ -226,6 +230,18 @@ pub fn write_list(out: &mut [u8], at: usize, list: &[u16]) -> usize {
         i += 1;
     }
     next
+}
+
+// Writes a list of numbers at an offset, and answers the offset behind it.
+pub fn write_list(out: &mut [u8], at: usize, list: &[u16]) -> usize
+    ensures offset { λ r. ⌜ r ≡ behind-all (now (out .entry)) at (list-texts (now (list .entry))) ⌝ }
+    ensures text { λ _. ⌜ now (out .exit) ≡ placed-all (now (out .entry)) at (list-texts (now (list .entry))) ⌝ }
+{
+    if list.len() == 0 {
+        return write_word(out, at, b"-");
+    }
+    let next = write_number(out, at, wide(list[0]));
+    write_more(out, next, list)
 }
 
 // Writes bytes in hexadecimal at an offset, and answers the offset behind them.

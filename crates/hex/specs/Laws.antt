@@ -1,17 +1,17 @@
 -- Laws of hexadecimal digits: how many there are, and what is written is read back. Assumes nothing.
 use mathlib.Core.Bool.{Bool, true, false, _&&_}
 use mathlib.Core.List.{List, [], _∷_, _++_}
-use mathlib.Core.Path.{_≡_, refl, ap, _∙_}
+use mathlib.Core.Path.{_≡_, refl, sym, ap, _∙_}
 use Prim.Native.Nat.{ℕ, zero, suc, _+_, _*_, _/_, _%_, _≤_, _<_}
 use native.Mathlib.Omega.{arith}
-use borrow.Author.Tests.{le-leb, lt-leb, le-ltb, lt-ltb, ltb-true, ltb-false, eq-eqb, ne-eqb}
-use lib.ListN.{length, getD}
-use Rattle.paging.specs.Sets.{_=?_, _≤?_, _<?_}
+use borrow.Author.Tests.{leb-true, le-leb, lt-leb, le-ltb, lt-ltb, ltb-true, ltb-false, eq-eqb, ne-eqb}
+use lib.ListN.{length, getD, length-append}
+use Rattle.paging.specs.Sets.{_=?_, _≤?_, _<?_, if_then_else_}
 use Rattle.words.specs.Words.{put}
-use Rattle.words.specs.Laws.{Bytes}
+use Rattle.words.specs.Laws.{Bytes, put-length, put-put, put-none}
 use Rattle.hex.specs.declared.Count.the-variants.{Of, Refused}
 use Rattle.hex.specs.Hex.{value-of, digit-of, digits, all-digits, byte-of, bytes-of, readable, count-read, bytes-read}
-use Rattle.hex.specs.Room.{placed, behind}
+use Rattle.hex.specs.Room.{placed, behind, placed-all, behind-all}
 
 second-fails : (a b d : Bool) → b ≡ false → (a && b && d) ≡ false
 second-fails true b d e = rw e
@@ -92,6 +92,81 @@ module _ (room : ℕ) (s : List ℕ) (at : ℕ) (text : List ℕ) where
       (r ≡ behind room s at text) × (last ≡ placed room s at text)
   unfolding behind placed
   with-room r last l e p = (rw (le-leb _ _ l) e, rw (le-leb _ _ l) p)
+
+-- ---- texts one behind the other
+
+-- What a writer of some texts answers and leaves.
+abbrev pub Told : List ℕ → ℕ → List (List ℕ) → ℕ → List ℕ → Type 0
+Told s at texts r last = (r ≡ behind-all s at texts) × (last ≡ placed-all s at texts)
+
+pub none-told : (s : List ℕ) (at : ℕ) → Told s at [] at s
+unfolding behind-all placed-all
+none-told s at = (refl, refl)
+
+pub one-told :
+    (s : List ℕ) (at : ℕ) (text : List ℕ) (r : ℕ) (last : List ℕ) →
+    (r ≡ behind (length text) s at text) × (last ≡ placed (length text) s at text) →
+    Told s at (text ∷ []) r last
+unfolding behind-all placed-all
+one-told s at text r last p = p
+
+behind-append :
+    (s : List ℕ) (at : ℕ) (xs ys : List (List ℕ)) →
+    behind-all s at (xs ++ ys) ≡ behind-all (placed-all s at xs) (behind-all s at xs) ys
+unfolding behind-all placed-all
+behind-append s at [] ys = refl
+behind-append s at (x ∷ xs) ys = behind-append (placed (length x) s at x) (behind (length x) s at x) xs ys
+
+placed-append :
+    (s : List ℕ) (at : ℕ) (xs ys : List (List ℕ)) →
+    placed-all s at (xs ++ ys) ≡ placed-all (placed-all s at xs) (behind-all s at xs) ys
+unfolding behind-all placed-all
+placed-append s at [] ys = refl
+placed-append s at (x ∷ xs) ys = placed-append (placed (length x) s at x) (behind (length x) s at x) xs ys
+
+pub told-then :
+    (s : List ℕ) (at : ℕ) (xs ys : List (List ℕ)) (mid : ℕ) (t : List ℕ) (r : ℕ) (last : List ℕ) →
+    Told s at xs mid t →
+    Told t mid ys r last →
+    Told s at (xs ++ ys) r last
+told-then s at xs ys mid t r last p q =
+    (q .0 ∙ rw (p .0, p .1) (sym (behind-append s at xs ys)), q .1 ∙ rw (p .0, p .1) (sym (placed-append s at xs ys)))
+
+placed-length : (s : List ℕ) (at : ℕ) (text : List ℕ) → length (placed (length text) s at text) ≡ length s
+unfolding placed
+placed-length s at text = go (at + length text ≤? length s) refl
+  where
+    go : (t : Bool) → at + length text ≤? length s ≡ t → length (if at + length text ≤? length s then put s at text else s) ≡ length s
+    go true e = rw e (put-length s at text (leb-true (at + length text) (length s) e))
+    go false e = rw e
+
+-- Writing texts leaves a buffer as long as it was.
+pub placed-all-length : (s : List ℕ) (at : ℕ) (texts : List (List ℕ)) → length (placed-all s at texts) ≡ length s
+unfolding placed-all
+placed-all-length s at [] = refl
+placed-all-length s at (t ∷ ts) =
+    placed-all-length (placed (length t) s at t) (behind (length t) s at t) ts ∙ placed-length s at t
+
+-- All the texts together.
+unfoldable pub all-text : List (List ℕ) → List ℕ
+all-text [] = []
+all-text (t ∷ ts) = t ++ all-text ts
+
+-- With room for all of them they stand one behind the other, and nothing else changes.
+pub all-placed :
+    (s : List ℕ) (at : ℕ) (texts : List (List ℕ)) →
+    at + length (all-text texts) ≤ length s →
+    (behind-all s at texts ≡ at + length (all-text texts)) × (placed-all s at texts ≡ put s at (all-text texts))
+unfolding behind-all placed-all all-text
+all-placed s at [] l = (omega arith, sym (put-none s at))
+all-placed s at (t ∷ ts) l =
+    let size = length-append t (all-text ts) in
+    let fits : at + length t ≤ length s = omega (arith, size) in
+    let first : (behind (length t) s at t ≡ at + length t) × (placed (length t) s at t ≡ put s at t) =
+    let told = with-room (length t) s at t (at + length t) (put s at t) fits refl refl in
+    (sym (told .0), sym (told .1)) in
+    let rest = all-placed (put s at t) (at + length t) ts (omega (arith, size, put-length s at t fits)) in
+    rw (first .0, first .1) (rest .0 ∙ omega (arith, size), rest .1 ∙ put-put s at t (all-text ts) fits)
 
 -- ---- what is written is read back
 

@@ -1,113 +1,111 @@
-// Which call a line asks for, by the number of its words and its first. A line that is no question gets `bad line`. Assumes nothing.
+// Which question a line is, by how many words it has and its first. A line that is none gets `bad line`. Assumes nothing.
+ghost use mathlib.Core.Path.{_≡_};
+ghost use Rattle.hex.specs.Room.{placed-all, behind-all};
+ghost use Rattle.kinds.specs.Kinds.{two-words, three-words, four-words, five-words, seven-words, line-answer};
 
 // The questions of two words.
-fn of_two(line: &[u8], bytes: &mut [u8], list: &mut [u16], out: &mut [u8], at: usize) -> usize {
-    let kind = fields::word(line, 0);
+fn of_two<'a>(kind: &'a [u8], line: &'a [u8], out: &mut [u8], at: usize) -> usize
+    ensures offset { λ r. ⌜ r ≡ behind-all (now (out .entry)) at (two-words (now (kind .entry)) (now (line .entry))) ⌝ }
+    ensures text { λ _. ⌜ now (out .exit) ≡ placed-all (now (out .entry)) at (two-words (now (kind .entry)) (now (line .entry))) ⌝ }
+{
     if check::same(kind, b"sound") {
-        return calls::sound(line, bytes, out, at);
+        return calls::sound(line, out, at);
     }
     if check::same(kind, b"selection") {
-        return calls::selection(line, bytes, list, out, at);
+        return calls::selection(line, out, at);
     }
     if check::same(kind, b"readtrace") {
-        return calls::readtrace(line, bytes, out, at);
+        return files::readtrace(line, out, at);
     }
     if check::same(kind, b"readimage") {
-        return calls::readimage(line, bytes, out, at);
+        return files::readimage(line, out, at);
     }
     answers::bad(out, at)
 }
 
 // The questions of three words.
-fn of_three(line: &[u8], record: &mut [u8], bytes: &mut [u8], out: &mut [u8], at: usize) -> usize {
-    let kind = fields::word(line, 0);
+fn of_three<'a>(kind: &'a [u8], line: &'a [u8], out: &mut [u8], at: usize) -> usize
+    ensures offset { λ r. ⌜ r ≡ behind-all (now (out .entry)) at (three-words (now (kind .entry)) (now (line .entry))) ⌝ }
+    ensures text { λ _. ⌜ now (out .exit) ≡ placed-all (now (out .entry)) at (three-words (now (kind .entry)) (now (line .entry))) ⌝ }
+{
     if check::same(kind, b"request") {
-        return calls::request(line, record, out, at);
+        return calls::request(line, out, at);
     }
     if check::same(kind, b"trial") {
-        return calls::trial(line, record, out, at);
+        return calls::trial(line, out, at);
     }
     if check::same(kind, b"layer") {
-        return calls::layer(line, record, out, at);
+        return calls::layer(line, out, at);
     }
     if check::same(kind, b"certain") {
-        return calls::certain(line, record, out, at);
+        return calls::certain(line, out, at);
     }
     if check::same(kind, b"writeimage") {
-        return calls::writeimage(line, record, bytes, out, at);
+        return files::writeimage(line, out, at);
     }
     if check::same(kind, b"board") {
-        return calls::serve_board(line, bytes, out, at);
+        return files::serve_board(line, out, at);
     }
     answers::bad(out, at)
 }
 
-// The questions of four words and more.
-fn of_more(
-    line: &[u8],
-    words: usize,
-    record: &mut [u8],
-    area: &mut [u8],
-    bytes: &mut [u8],
-    list: &mut [u16],
-    priorities: &mut [u16],
-    requests: &mut [u16],
-    out: &mut [u8],
-    at: usize,
-) -> usize {
-    let kind = fields::word(line, 0);
-    if words == 4 {
-        if check::same(kind, b"look") {
-            return calls::look(line, record, area, out, at);
-        }
-        return answers::bad(out, at);
-    }
-    if words == 7 {
-        if check::same(kind, b"writetrace") {
-            return calls::writetrace(line, list, priorities, requests, bytes, out, at);
-        }
-        return answers::bad(out, at);
-    }
-    if words == 5 {
-        if check::same(kind, b"start") {
-            return calls::start(line, list, priorities, bytes, out, at);
-        }
-        if check::same(kind, b"fill") {
-            return calls::fill(line, record, area, bytes, out, at);
-        }
+// The question of four words.
+fn of_four<'a>(kind: &'a [u8], line: &'a [u8], out: &mut [u8], at: usize) -> usize
+    ensures offset { λ r. ⌜ r ≡ behind-all (now (out .entry)) at (four-words (now (kind .entry)) (now (line .entry))) ⌝ }
+    ensures text { λ _. ⌜ now (out .exit) ≡ placed-all (now (out .entry)) at (four-words (now (kind .entry)) (now (line .entry))) ⌝ }
+{
+    if check::same(kind, b"look") {
+        return files::look(line, out, at);
     }
     answers::bad(out, at)
 }
 
-// The answer of a line, without its end.
-pub fn answer(
-    line: &[u8],
-    record: &mut [u8],
-    area: &mut [u8],
-    bytes: &mut [u8],
-    list: &mut [u16],
-    priorities: &mut [u16],
-    requests: &mut [u16],
-    out: &mut [u8],
-    at: usize,
-) -> usize {
+// The questions of five words.
+fn of_five<'a>(kind: &'a [u8], line: &'a [u8], out: &mut [u8], at: usize) -> usize
+    ensures offset { λ r. ⌜ r ≡ behind-all (now (out .entry)) at (five-words (now (kind .entry)) (now (line .entry))) ⌝ }
+    ensures text { λ _. ⌜ now (out .exit) ≡ placed-all (now (out .entry)) at (five-words (now (kind .entry)) (now (line .entry))) ⌝ }
+{
+    if check::same(kind, b"start") {
+        return calls::start(line, out, at);
+    }
+    if check::same(kind, b"fill") {
+        return files::fill(line, out, at);
+    }
+    answers::bad(out, at)
+}
+
+// The question of seven words.
+fn of_seven<'a>(kind: &'a [u8], line: &'a [u8], out: &mut [u8], at: usize) -> usize
+    ensures offset { λ r. ⌜ r ≡ behind-all (now (out .entry)) at (seven-words (now (kind .entry)) (now (line .entry))) ⌝ }
+    ensures text { λ _. ⌜ now (out .exit) ≡ placed-all (now (out .entry)) at (seven-words (now (kind .entry)) (now (line .entry))) ⌝ }
+{
+    if check::same(kind, b"writetrace") {
+        return files::writetrace(line, out, at);
+    }
+    answers::bad(out, at)
+}
+
+// The answer of a line, without its end, written at an offset; answers the offset behind it.
+pub fn answer(line: &[u8], out: &mut [u8], at: usize) -> usize
+    ensures offset { λ r. ⌜ r ≡ behind-all (now (out .entry)) at (line-answer (now (line .entry))) ⌝ }
+    ensures text { λ _. ⌜ now (out .exit) ≡ placed-all (now (out .entry)) at (line-answer (now (line .entry))) ⌝ }
+{
     let words = fields::words_in(line);
+    let kind = fields::word(line, 0);
     if words == 2 {
-        return of_two(line, record, list, out, at);
+        return of_two(kind, line, out, at);
     }
     if words == 3 {
-        return of_three(line, record, bytes, out, at);
+        return of_three(kind, line, out, at);
     }
-    of_more(
-        line,
-        words,
-        record,
-        area,
-        bytes,
-        list,
-        priorities,
-        requests,
-        out,
-        at,
-    )
+    if words == 4 {
+        return of_four(kind, line, out, at);
+    }
+    if words == 5 {
+        return of_five(kind, line, out, at);
+    }
+    if words == 7 {
+        return of_seven(kind, line, out, at);
+    }
+    answers::bad(out, at)
 }

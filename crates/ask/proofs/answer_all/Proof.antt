@@ -6,12 +6,10 @@ use Rattle.ask.proofs.answer_all.Statement.{statement}
 use Rattle.ask.proofs.answer_all.Tie as tie
 
 abbrev Inv-loop : tie.InvT-loop
-Inv-loop piece₀ line₀ record₀ area₀ bytes₀ list₀ priorities₀ requests₀ out₀ kept₀ turns₀ piece line «record» area bytes list priorities requests out kept turns =
-    (length piece ≡ length piece₀) × (length line ≡ length line₀) × (length «record» ≡ length record₀) × (length area ≡ length area₀) × (length bytes ≡ length bytes₀) × (length list ≡ length list₀) × (length priorities ≡ length priorities₀) × (length requests ≡ length requests₀) × (length out ≡ length out₀)
+Inv-loop piece₀ line₀ out₀ kept₀ turns₀ piece line out kept turns = (length piece ≡ length piece₀) × (length line ≡ length line₀) × (length out ≡ length out₀)
 
 abbrev μ-loop : tie.MeasureT-loop
-μ-loop piece₀ line₀ record₀ area₀ bytes₀ list₀ priorities₀ requests₀ out₀ kept₀ turns₀ piece line «record» area bytes list priorities requests out kept turns =
-    turns
+μ-loop piece₀ line₀ out₀ kept₀ turns₀ piece line out kept turns = turns
 
 loop-holds : tie.Need-loop-holds Inv-loop μ-loop
 loop-holds c = search needs
@@ -37,24 +35,6 @@ same-length-2 c = search needs
 same-length-3 : tie.Need-same-length-3 Inv-loop μ-loop
 same-length-3 c = search needs
 
-same-length-4 : tie.Need-same-length-4 Inv-loop μ-loop
-same-length-4 c = search needs
-
-same-length-5 : tie.Need-same-length-5 Inv-loop μ-loop
-same-length-5 c = search needs
-
-same-length-6 : tie.Need-same-length-6 Inv-loop μ-loop
-same-length-6 c = search needs
-
-same-length-7 : tie.Need-same-length-7 Inv-loop μ-loop
-same-length-7 c = search needs
-
-same-length-8 : tie.Need-same-length-8 Inv-loop μ-loop
-same-length-8 c = search needs
-
-same-length-9 : tie.Need-same-length-9 Inv-loop μ-loop
-same-length-9 c = search needs
-
 returns : tie.Need-returns Inv-loop μ-loop
 returns c = search needs
 
@@ -72,10 +52,4 @@ answer-all-spec =
     same-length
     same-length-2
     same-length-3
-    same-length-4
-    same-length-5
-    same-length-6
-    same-length-7
-    same-length-8
-    same-length-9
     returns)

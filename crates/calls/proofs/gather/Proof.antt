@@ -1,28 +1,33 @@
--- `calls::gather` is safe and ends. Assumes nothing.
-use Prim.Native.Nat.{_-_}
-use mathlib.Core.Path.{_≡_}
-use lib.ListN.{length}
+-- `calls::gather` meets its contract: the pages that are left, put behind those that are there, make the whole. Assumes nothing.
+use mathlib.Core.Path.{refl}
+use Prim.Native.Nat.{_-_, _≤_}
+use native.Mathlib.Omega.{arith}
+use Rattle.calls.proofs.Steps.{Gathering, gathering-first, gathering-next, gathering-last}
 use borrow.Author.Needs.{needs}
 use Rattle.calls.proofs.gather.Statement.{statement}
 use Rattle.calls.proofs.gather.Tie as tie
 
 abbrev Inv-loop : tie.InvT-loop
-Inv-loop list₀ pages n₀ q₀ list n q = length list ≡ length list₀
+Inv-loop pages list₀ n₀ q₀ list n q = Gathering pages list₀ list n q × (q ≤ 1024)
 
 abbrev μ-loop : tie.MeasureT-loop
-μ-loop list₀ pages n₀ q₀ list n q = 1024 - q
+μ-loop pages list₀ n₀ q₀ list n q = 1024 - q
 
 loop-holds : tie.Need-loop-holds Inv-loop μ-loop
-loop-holds c = search needs
+loop-holds c = (gathering-first _ _, search needs)
 
 cast-put-page : tie.Need-cast-put-page Inv-loop μ-loop
 cast-put-page c = search needs
 
-array-read-put-page : tie.Need-array-read-put-page Inv-loop μ-loop
-array-read-put-page c = search needs
+shared-slice-read-put-page : tie.Need-shared-slice-read-put-page Inv-loop μ-loop
+shared-slice-read-put-page c = search needs
 
 put-page-requires : tie.Need-put-page-requires Inv-loop μ-loop
-put-page-requires c κs = search needs
+put-page-requires c κs =
+    let loop = c .before .before .before .loop in
+    let pre = c .before .before .before .before .before .before .pre in
+    let loop-test = c .before .before .loop-test in
+    omega (arith, loop .inv .0 .few, loop .inv .0 .size, pre .1, loop-test .taken)
 
 add-q : tie.Need-add-q Inv-loop μ-loop
 add-q c = search needs
@@ -31,13 +36,22 @@ loop-less : tie.Need-loop-less Inv-loop μ-loop
 loop-less c = search needs
 
 loop-again : tie.Need-loop-again Inv-loop μ-loop
-loop-again c = search needs
+loop-again c =
+    let loop = c .before .before .before .before .before .before .loop in
+    let pre = c .before .before .before .before .before .before .before .before .before .pre in
+    let loop-test = c .before .before .before .before .before .loop-test in
+    let put-page = c .before .before .put-page in
+    (gathering-next _ _ _ _ _ (loop .inv .0) _ _ _ (search needs) (omega (arith, loop .inv .0 .few, loop .inv .0 .size, pre .1, loop-test .taken)) refl (put-page .ensures), search needs)
 
 same-length : tie.Need-same-length Inv-loop μ-loop
-same-length c = search needs
+same-length c =
+    let loop = c .before .loop in
+    loop .inv .0 .size
 
 returns : tie.Need-returns Inv-loop μ-loop
-returns c = search needs
+returns c =
+    let loop = c .before .loop in
+    gathering-last _ _ _ _ _ (loop .inv .0) (search needs)
 
 pub gather-spec : {M : Type 1} → statement M
 gather-spec =
@@ -47,7 +61,7 @@ gather-spec =
     μ-loop
     loop-holds
     cast-put-page
-    array-read-put-page
+    shared-slice-read-put-page
     put-page-requires
     add-q
     loop-less

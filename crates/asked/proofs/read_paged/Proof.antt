@@ -1,0 +1,71 @@
+-- `asked::read_paged` meets its contract, by what was read. Assumes nothing.
+use mathlib.Core.Option.{some}
+use mathlib.Core.Path.{_≡_, sym, ap, _∙_}
+use borrow.Author.Tests.{not-true, not-false}
+use Rattle.fields.specs.Fields.{word-of}
+use Rattle.asked.specs.Asked.{run-of, number-in}
+use Rattle.asked.specs.Laws.{good-run, bad-run, no-run-paged, no-number-paged, all-paged}
+use borrow.Author.Needs.{needs}
+use Rattle.asked.proofs.read_paged.Statement.{statement}
+use Rattle.asked.proofs.read_paged.Tie as tie
+
+word-requires : tie.Need-word-requires
+word-requires c κs = search needs
+
+read-run-requires : tie.Need-read-run-requires
+read-run-requires c κs = search needs
+
+no-page-requires : tie.Need-no-page-requires
+no-page-requires c κs = search needs
+
+returns : tie.Need-returns
+returns c =
+    let read = c .before .before in
+    no-run-paged _ _ (ap run-of (sym (read .before .word .ensures)) ∙ bad-run _ _ (read .read-run .ensures) (not-true _ (c .before .if1 .taken))) (c .no-page .ensures)
+
+-- the record is that of a run
+run-read : (c : tie.Else1) → run-of (word-of 1 (c .before .before .before .before .args .line .now)) ≡ some (c .before .read-run .result .run)
+run-read c = ap run-of (sym (c .before .before .word .ensures)) ∙ good-run _ _ (c .before .read-run .ensures) (not-false _ (c .if1 .left))
+
+word-requires-2 : tie.Need-word-requires-2
+word-requires-2 c κs = search needs
+
+read-number-requires : tie.Need-read-number-requires
+read-number-requires c κs = search needs
+
+enum-known-number : tie.Need-enum-known-number
+enum-known-number c = search needs
+
+enum-told : tie.Need-enum-told
+enum-told c = search needs
+
+no-page-requires-2 : tie.Need-no-page-requires-2
+no-page-requires-2 c κs = search needs
+
+returns-2 : tie.Need-returns-2
+returns-2 c =
+    let number = c .before .before .before in
+    let run = number .before .before .before in
+    no-number-paged _ _ _ (run-read run) (ap number-in (sym (number .before .word2 .ensures)) ∙ sym (number .read-number .ensures) ∙ c .before .enum-told .given .1) (c .no-page2 .ensures)
+
+returns-3 : tie.Need-returns-3
+returns-3 c =
+    let number = c .before .before .before in
+    let run = number .before .before .before in
+    all-paged _ _ _ (run-read run) (ap number-in (sym (number .before .word2 .ensures)) ∙ sym (number .read-number .ensures) ∙ c .before .number .given .1)
+
+pub read-paged-spec : {M : Type 1} → statement M
+read-paged-spec =
+    tie.close
+    (tie.spec
+    word-requires
+    read-run-requires
+    no-page-requires
+    returns
+    word-requires-2
+    read-number-requires
+    enum-known-number
+    enum-told
+    no-page-requires-2
+    returns-2
+    returns-3)

@@ -1,0 +1,3 @@
+-- What a line asks. Assumes nothing.
+pub mod Asked
+pub mod Laws

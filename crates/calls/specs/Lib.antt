@@ -1,0 +1,2 @@
+-- The questions about a run. Assumes nothing.
+pub mod Calls

@@ -1,0 +1,2 @@
+-- The questions about frames, files and images. Assumes nothing.
+pub mod Files

@@ -1,0 +1,2 @@
+-- Which question a line is. Assumes nothing.
+pub mod Kinds
