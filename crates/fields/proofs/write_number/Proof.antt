@@ -4,6 +4,7 @@ use borrow.Author.Needs.{needs}
 use Rattle.fields.proofs.write_number.Statement.{statement}
 use Rattle.fields.proofs.write_number.Tie as tie
 use Rattle.hex.specs.Laws.{no-room, with-room}
+use Rattle.text.specs.Laws.{decimal-short}
 
 returns : tie.Need-returns
 returns c = no-room _ _ _ _ (omega arith)
@@ -15,7 +16,7 @@ returns-2 : tie.Need-returns-2
 returns-2 c = no-room _ _ _ _ (omega arith)
 
 write-number-requires : tie.Need-write-number-requires
-write-number-requires c κs = search needs
+write-number-requires c κs = omega (arith, decimal-short (c .before .before .before .before .args .n))
 
 same-length : tie.Need-same-length
 same-length c = search needs
