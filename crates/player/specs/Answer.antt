@@ -21,13 +21,9 @@ answer-bytes b =
     then first-line (traced b .run .pages) (traced b .run .slots) (traced b .requests) ++ lines (traced b .run) (requests-of b)
     else refused-line (trace-refusal b)
 
--- The longest answer has 30,000 lines of at most 100 bytes, one line before them and one of at most 108 behind them.
-abbrev pub room : ℕ
-room = 3000208
-
--- An answer is written to the start of a buffer that has room for every answer; any other stays as it is.
+-- An answer is written to the start of a buffer that it fits in; any other stays as it is.
 unfoldable pub answer-length : List ℕ → List ℕ → ℕ
-answer-length b out = if room ≤? length out then length (answer-bytes b) else 0
+answer-length b out = if length (answer-bytes b) ≤? length out then length (answer-bytes b) else 0
 
 unfoldable pub answered : List ℕ → List ℕ → List ℕ
-answered b out = if room ≤? length out then put out 0 (answer-bytes b) else out
+answered b out = if length (answer-bytes b) ≤? length out then put out 0 (answer-bytes b) else out

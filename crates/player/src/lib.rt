@@ -1,11 +1,14 @@
 // What the trace program prints: the whole answer of a trace file, written into a lent buffer. Assumes nothing.
 ghost use mathlib.Core.Path.{_≡_};
-ghost use Prim.Native.Nat.{_+_, _*_, _≤_};
+ghost use Prim.Native.Nat.{_+_, _≤_};
 ghost use lib.ListN.{length};
 ghost use Rattle.words.specs.Words.{put};
 ghost use Rattle.run.specs.Sound.{Sound};
-ghost use Rattle.player.specs.Answer.{lines, answer-length, answered};
+ghost use Rattle.paging.specs.Sets.{_≤?_};
+ghost use Rattle.text.specs.Text.{last-line};
+ghost use Rattle.player.specs.Answer.{lines, answer-bytes, answer-length, answered};
 ghost use Rattle.trace.specs.Reading.{asked};
+use replay::Counts;
 use run::Run;
 
 // A buffer of this size has room for every answer.
@@ -27,7 +30,7 @@ fn write_lines<'a>(
     out: &'a mut [u8],
     at: usize,
 ) -> usize
-    requires { ⌜ Sound start × (at + 100 * requests + 108 ≤ length (now out)) ⌝ }
+    requires { ⌜ Sound start × (at + length (lines start (asked (now file) offset requests)) ≤ length (now out)) ⌝ }
     ensures offset { λ r. ⌜ r ≡ at + length (lines start (asked (now (file .entry)) offset requests)) ⌝ }
     ensures text { λ _. ⌜ now (out .exit) ≡ put (now (out .entry)) at (lines start (asked (now (file .entry)) offset requests)) ⌝ }
 {
@@ -70,12 +73,85 @@ fn write_lines<'a>(
     )
 }
 
-// Writes the answer of a trace file to the start of a buffer and answers its length: 0, and nothing written, without room.
+// How long the last line is.
+fn last_length(counts: Counts) -> usize
+    ensures { λ r. ⌜ r ≡ length (last-line (counts .served) (counts .hits) (counts .misses) (counts .best)) ⌝ }
+{
+    let served = counts.served as u64;
+    let hits = counts.hits as u64;
+    let misses = counts.misses as u64;
+    let best = counts.best as u64;
+    text::last_line_length(served, hits, misses, best)
+}
+
+// How long the lines of requests and the last line are, by playing the requests with nothing written.
+fn lines_length(file: &[u8], offset: usize, requests: usize, start: Run) -> usize
+    requires { ⌜ Sound start × (requests ≤ 30000) ⌝ }
+    ensures { λ r. ⌜ r ≡ length (lines start (asked (now (file .entry)) offset requests)) ⌝ }
+{
+    let pages = start.pages;
+    let slots = start.slots;
+    let k = (slots % 256) as u8;
+    let priority = start.priority;
+    let mut layer = start.layer;
+    let mut held = start.held;
+    let mut near = slots::nears(&layer, &held, slots);
+    let mut keys = slots::keys(&priority, &held, slots);
+    let mut counts = replay::first_counts(start);
+    let mut size = 0;
+    let mut i = 0;
+    while i < requests {
+        let asked = trace::request_at(file, offset, i);
+        let turn = replay::ask(
+            &mut layer,
+            &priority,
+            &mut held,
+            &mut near,
+            &mut keys,
+            pages,
+            k,
+            asked,
+            counts,
+        );
+        let event = turn.event;
+        size += text::line_length(asked as u64, event, turn.best as u64);
+        counts = turn.counts;
+        i += 1;
+    }
+    size + last_length(counts)
+}
+
+// How long the answer of a file is.
+fn size_of_answer(file: &[u8]) -> usize
+    ensures { λ r. ⌜ r ≡ length (answer-bytes (now (file .entry))) ⌝ }
+{
+    let traced = trace::read(file);
+    let refusal = traced.refusal;
+    if refusal != 0 {
+        return text::refused_length(refusal as u64);
+    }
+    let run = traced.run;
+    let requests = traced.requests;
+    let first = text::first_line_length(run.pages as u64, run.slots as u64, requests as u64);
+    first + lines_length(file, traced.offset, requests, run)
+}
+
+// Whether the answer of a file fits in so many bytes. It is measured only where they are too few for the longest answer.
+fn fits(file: &[u8], room: usize) -> bool
+    ensures { λ r. ⌜ r ≡ (length (answer-bytes (now (file .entry))) ≤? room) ⌝ }
+{
+    if ROOM <= room {
+        return true;
+    }
+    size_of_answer(file) <= room
+}
+
+// Writes the answer of a trace file to the start of a buffer and answers its length: 0, and nothing written, where it does not fit.
 pub fn answer(file: &[u8], out: &mut [u8]) -> usize
     ensures offset { λ r. ⌜ r ≡ answer-length (now (file .entry)) (now (out .entry)) ⌝ }
     ensures text { λ _. ⌜ now (out .exit) ≡ answered (now (file .entry)) (now (out .entry)) ⌝ }
 {
-    if out.len() < ROOM {
+    if !fits(file, out.len()) {
         return 0;
     }
     let traced = trace::read(file);

@@ -1,4 +1,5 @@
--- What a turn of each loop and a call after a call leave, in the contracts' words. Assumes nothing.
+-- What a turn of each loop and a call after a call leave, in the contracts' words, and how long a line is by its parts.
+-- Assumes nothing.
 use mathlib.Core.List.{List, [], _∷_, _++_, append-assoc}
 use mathlib.Core.Path.{_≡_, refl, sym, ap, _∙_}
 use Prim.Native.Nat.{ℕ, zero, suc, _+_, _-_, _/_, _%_, _≤_, _<_}
@@ -8,7 +9,9 @@ use lib.ListN.{length, getD, set, take, drop, length-append}
 use lib.Seq.{drop-cons, drop-set-lt, getD-set-same, length-take-le, lt-length-set, take-all, take-set-le, take-suc, set-split}
 use Rattle.words.specs.Words.{put}
 use Rattle.words.specs.Laws.{put-none, put-then}
-use Rattle.text.specs.Text.{digits-to, decimal}
+use Rattle.serve.specs.declared.Event.{Event}
+use Rattle.serve.specs.declared.Event.the-variants.{Hit, Miss, Refused}
+use Rattle.text.specs.Text.{digits-to, decimal, then-number, then-entry, event-line, first-line, last-line, refused-line}
 use Rattle.text.specs.Laws.{digits-step, digits-enough}
 
 -- ---- the loop that counts digits: a digit more, and all
@@ -132,13 +135,79 @@ then {s} {t} {last} {at} {next} {r} {a} {b} v h w =
     record { offset = rw length-append (omega arith); same = put-then s t last at next a b (v .same) (w .same) (v .offset) h }
 
 module _ (s : List ℕ) (at : ℕ) (text : List ℕ) (r : ℕ) (last : List ℕ) where
-  -- as a call tells it, of a word and of a number
+  -- as a call tells it
   pub word : (r ≡ at + length text) × (last ≡ put s at text) → Written s at text r last
   word e = record { offset = e .0; same = e .1 }
-
-  pub part : (most : ℕ) → (r ≡ at + length text) × ((last ≡ put s at text) × (r ≤ most)) → Written s at text r last
-  part most e = record { offset = e .0; same = e .1 .0 }
 
   -- as a contract asks it
   pub told : Written s at text r last → (r ≡ at + length text) × (last ≡ put s at text)
   told w = (w .offset, w .same)
+
+-- ---- how long a line is, part by part in the order of the calls
+
+pub hit-sum :
+    (page slot best : ℕ) (event : Event) →
+    event ≡ Hit slot →
+    length (event-line page event best) ≡ 3 + length (then-number page) + length (then-number slot) + length (then-number best) + 1
+unfolding event-line
+hit-sum page slot best event e = rw e (simp length-append (omega arith))
+
+pub miss-sum :
+    (page slot victim best : ℕ) (event : Event) →
+    event ≡ Miss slot victim →
+    length (event-line page event best)
+    ≡ 4 + length (then-number page) + length (then-number slot) + length (then-number victim) + length (then-number best) + 1
+unfolding event-line
+miss-sum page slot victim best event e = rw e (simp length-append (omega arith))
+
+pub refused-sum :
+    (page number best : ℕ) (event : Event) →
+    event ≡ Refused number →
+    length (event-line page event best) ≡ 7 + length (then-number page) + length (then-number number) + 1
+unfolding event-line
+refused-sum page number best event e = rw e (simp length-append (omega arith))
+
+pub first-sum :
+    (pages slots requests : ℕ) →
+    length (first-line pages slots requests)
+    ≡ 5 + length (then-number pages) + (6 + length (then-number slots)) + (9 + length (then-number requests)) + 1
+unfolding first-line then-entry
+first-sum pages slots requests = simp length-append (omega arith)
+
+pub last-sum :
+    (served hits misses best : ℕ) →
+    length (last-line served hits misses best)
+    ≡ 6 + length (then-number served) + (5 + length (then-number hits)) + (7 + length (then-number misses)) + (5 + length (then-number best)) + 1
+unfolding last-line then-entry
+last-sum served hits misses best = simp length-append (omega arith)
+
+pub file-sum : (number : ℕ) → length (refused-line number) ≡ 7 + length (then-number number) + 1
+unfolding refused-line
+file-sum number = simp length-append (omega arith)
+
+-- ---- the room of an entry and of a request's line, part by part
+
+module _ (at size : ℕ) where
+  pub entry-room : (a b : List ℕ) → at + length (a ++ b) ≤ size → at + (length a + length b) ≤ size
+  entry-room a b h = rw length-append at h
+
+  pub hit-room :
+      (page slot best : ℕ) (event : Event) →
+      event ≡ Hit slot →
+      at + length (event-line page event best) ≤ size →
+      at + (3 + length (then-number page) + length (then-number slot) + length (then-number best) + 1) ≤ size
+  hit-room page slot best event e h = omega (arith, hit-sum page slot best event e)
+
+  pub miss-room :
+      (page slot victim best : ℕ) (event : Event) →
+      event ≡ Miss slot victim →
+      at + length (event-line page event best) ≤ size →
+      at + (4 + length (then-number page) + length (then-number slot) + length (then-number victim) + length (then-number best) + 1) ≤ size
+  miss-room page slot victim best event e h = omega (arith, miss-sum page slot victim best event e)
+
+  pub refused-room :
+      (page number best : ℕ) (event : Event) →
+      event ≡ Refused number →
+      at + length (event-line page event best) ≤ size →
+      at + (7 + length (then-number page) + length (then-number number) + 1) ≤ size
+  refused-room page number best event e h = omega (arith, refused-sum page number best event e)

@@ -11,7 +11,7 @@ slice-aggregate-write-number : tie.Need-slice-aggregate-write-number
 slice-aggregate-write-number c = search needs
 
 write-number-requires : tie.Need-write-number-requires
-write-number-requires c κs = search needs
+write-number-requires c κs = omega (arith, decimal-short (c .before .before .args .n))
 
 slice-aggregate-first : tie.Need-slice-aggregate-first
 slice-aggregate-first c = search needs

@@ -3,13 +3,12 @@
 use mathlib.Core.Path.{_≡_}
 use Prim.Native.Nat.{_-_}
 use native.Mathlib.Omega.{arith}
-use lib.ListN.{length}
 use borrow.Author.Needs.{needs}
 use Rattle.run.specs.Serving.{slots-hold, slots-byte}
 use Rattle.slots.specs.Slots.{near-of, keys-of}
 use Rattle.replay.specs.Replay.{state}
 use Rattle.replay.specs.Laws.{Long, long-next}
-use Rattle.player.specs.Laws.{Playing, playing-first, playing-next, playing-size, playing-last}
+use Rattle.player.specs.Laws.{Playing, playing-first, line-fits, playing-next, last-fits, playing-last}
 use Rattle.player.proofs.write_lines.Statement.{statement}
 use Rattle.player.proofs.write_lines.Tie as tie
 
@@ -58,7 +57,7 @@ request-at-requires c κs = search needs
 ask-requires : tie.Need-ask-requires Inv-loop μ-loop
 ask-requires c κs =
     let i = c .before .before .before .before .before .before .before .loop .inv in
-    rw (i .4) ((i .0 .sound-is, i .1 .layers, i .1 .slots), (i .2, i .3))
+    rw (i .4) ((i .0 .so-far .sound-is, i .1 .layers, i .1 .slots), (i .2, i .3))
 
 cast-write-line : tie.Need-cast-write-line Inv-loop μ-loop
 cast-write-line c = search needs
@@ -67,7 +66,10 @@ cast-write-line-2 : tie.Need-cast-write-line-2 Inv-loop μ-loop
 cast-write-line-2 c = search needs
 
 write-line-requires : tie.Need-write-line-requires Inv-loop μ-loop
-write-line-requires c κs = search needs
+write-line-requires c κs =
+    let t = c .before .before .before .before .before .before .before .before in
+    let i = t .before .before .loop .inv in
+    line-fits _ _ _ _ _ _ _ _ _ _ (i .0) _ _ (t .before .loop-test .taken) (t .request-at .ensures) (rw (i .4) at (c .before .before .ask .ensures .0))
 
 add-i : tie.Need-add-i Inv-loop μ-loop
 add-i c = omega (arith, c .before .before .before .before .before .before .before .before .before .before .before .before .before .loop-test .taken, c .before .before .before .before .before .before .before .before .before .before .before .before .before .before .before .before .before .before .before .before .before .before .before .before .before .before .before .fits .requests)
@@ -84,13 +86,14 @@ loop-again c =
       playing-next
           _ _ _ _ _ _ _ _ _ _
           (i .0)
-          _ _ _ _
+          _ _
           (c .before .before .before .before .before .before .before .before .before .before .before .before .before .loop-test .taken)
           (c .before .before .before .before .before .before .before .before .before .before .before .before .request-at .ensures)
           is
+          _ _
           (line .0)
           (line .1),
-      long-next _ _ _ is (i .0 .sound-is) (i .1),
+      long-next _ _ _ is (i .0 .so-far .sound-is) (i .1),
       (rw (i .4) at (asks .1 .0)),
       (rw (i .4) at (asks .1 .1)),
       i .4,
@@ -109,19 +112,19 @@ cast-write-last-line-4 : tie.Need-cast-write-last-line-4 Inv-loop μ-loop
 cast-write-last-line-4 c = search needs
 
 write-last-line-requires : tie.Need-write-last-line-requires Inv-loop μ-loop
-write-last-line-requires c κs = search needs
+write-last-line-requires c κs =
+    let l = c .before .before .before .before .before in
+    last-fits _ _ _ _ _ _ _ _ _ _ (l .before .loop .inv .0) (l .loop-test .left)
 
 same-length : tie.Need-same-length Inv-loop μ-loop
-same-length c =
-    let i = c .before .before .before .before .before .before .before .before .before .loop .inv in
-    playing-size _ _ _ _ _ _ _ _ _ _ (i .0) _ (c .before .before .write-last-line .ensures .1)
+same-length c = search needs
 
 returns : tie.Need-returns Inv-loop μ-loop
 returns c =
     let i = c .before .before .before .before .before .before .before .before .before .loop .inv in
     let last = c .before .before .write-last-line .ensures in
     rw (c .before .before .before .before .before .before .before .before .before .before .first-counts .ensures) at
-    (playing-last _ _ _ _ _ _ _ _ _ _ (i .0) _ _ (c .before .before .before .before .before .before .before .before .loop-test .left) (last .0) (last .1))
+    (playing-last _ _ _ _ _ _ _ _ _ _ (i .0) (c .before .before .before .before .before .before .before .before .loop-test .left) _ _ (last .0) (last .1))
 
 pub write-lines-spec : {M : Type 1} → statement M
 write-lines-spec =
