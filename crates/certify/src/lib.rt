@@ -20,7 +20,7 @@ fn room_at(before: bool, n: u8, j: u8) -> bool
 }
 
 // For each j, the slots hold at most j pages of layers up to j: as many as the table says.
-pub fn has_room(counts: &[u8; 65], slots: u8) -> bool
+fn has_room(counts: &[u8; 65], slots: u8) -> bool
     requires { ⌜ slots ≤ 64 ⌝ }
     ensures { λ r. ⌜ r ≡ each (suc slots) (λ j. getD (now (counts .entry)) j 0 ≤? j) ⌝ }
 {
@@ -34,7 +34,7 @@ pub fn has_room(counts: &[u8; 65], slots: u8) -> bool
 }
 
 // By layers, the least key up to the first full layer from it on, of the slots whose tables `counts` and `lows` are.
-pub fn bars<'a>(counts: &'a [u8; 65], lows: &'a [u32; 65], slots: u8) -> [u32; 65]
+fn bars<'a>(counts: &'a [u8; 65], lows: &'a [u32; 65], slots: u8) -> [u32; 65]
     requires { ⌜ slots ≤ 64 ⌝ }
     ensures { λ r. ⌜ ((near keys : List ℕ) → Tabled near keys slots (now (counts .entry)) (now (lows .entry)) → r ≡ table 65 (suc slots) 0 (bar-key near keys slots)) ⌝ }
 {
@@ -53,12 +53,7 @@ pub fn bars<'a>(counts: &'a [u8; 65], lows: &'a [u32; 65], slots: u8) -> [u32; 6
 }
 
 // Marks the pages in the slots; true where each is a page and none stands twice.
-pub fn mark<'a>(
-    marks: &'a mut [bool; 1024],
-    held: &'a [u16; 64],
-    pages: usize,
-    slots: usize,
-) -> bool
+fn mark<'a>(marks: &'a mut [bool; 1024], held: &'a [u16; 64], pages: usize, slots: usize) -> bool
     requires { ⌜ (pages ≤ 1024) × (slots ≤ 64) × (now marks ≡ replicate 1024 false) ⌝ }
     ensures result { λ r. ⌜ r ≡ seats-fit pages slots (now (held .entry)) ⌝ }
     ensures marked { λ r. ⌜ (r ≡ true → now (marks .exit) ≡ table 1024 pages false (seated (now (held .entry)) slots)) ⌝ }
@@ -94,7 +89,7 @@ fn in_time(marked: bool, layer: u8, key: u32, bar: u32) -> bool
 }
 
 // No page outside the slots has a key that reaches the bar of its layer; layer 0 has no bar.
-pub fn none_late<'a>(
+fn none_late<'a>(
     layer: &'a [u8; 1024],
     priority: &'a [u16; 1024],
     marks: &'a [bool; 1024],

@@ -13,7 +13,7 @@ pub enum Count {
 }
 
 // The value of a digit, and 16 for every other character.
-pub fn value(c: u8) -> u8
+fn value(c: u8) -> u8
     ensures { λ r. ⌜ r ≡ value-of c ⌝ }
 {
     if c < 48 {
@@ -32,7 +32,7 @@ pub fn value(c: u8) -> u8
 }
 
 // The digit of the low four bits.
-pub fn digit(v: u8) -> u8
+fn digit(v: u8) -> u8
     ensures { λ r. ⌜ r ≡ digit-of v ⌝ }
 {
     let low = v % 16;

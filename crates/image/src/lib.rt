@@ -10,7 +10,7 @@ ghost use Rattle.slots.specs.Slots.{no-page, seated};
 ghost use Rattle.image.specs.Layout.{mark-byte, image-header, offsets-right, image-bytes, image-length, image-refusal, image-layers, image-slots, image-priorities, marks-agree};
 
 // A mark byte: the layer in bits 0 to 6, cached in bit 7.
-pub fn mark(layer: u8, cached: bool) -> u8
+fn mark(layer: u8, cached: bool) -> u8
     requires { ⌜ layer < 128 ⌝ }
     ensures { λ r. ⌜ r ≡ mark-byte layer cached ⌝ }
 {
@@ -18,14 +18,14 @@ pub fn mark(layer: u8, cached: bool) -> u8
 }
 
 // The layer of a mark.
-pub fn mark_layer(mark: u8) -> u8
+fn mark_layer(mark: u8) -> u8
     ensures { λ r. ⌜ r ≡ mark % 128 ⌝ }
 {
     mark & 127
 }
 
 // Whether a mark says cached.
-pub fn mark_cached(mark: u8) -> bool
+fn mark_cached(mark: u8) -> bool
     ensures { λ r. ⌜ r ≡ 128 ≤? mark ⌝ }
 {
     mark >> 7 == 1

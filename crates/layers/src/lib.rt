@@ -15,7 +15,7 @@ pub fn first_sinking(i: u8, slots: u8) -> u8
     if i == 0 { slots } else { i }
 }
 
-pub fn lower(from: u8, x: u8) -> u8
+fn lower(from: u8, x: u8) -> u8
     requires { ⌜ 0 < from ⌝ }
     ensures { λ r. ⌜ r ≡ lowered from x ⌝ }
 {
@@ -23,7 +23,7 @@ pub fn lower(from: u8, x: u8) -> u8
 }
 
 // The pages below `pages` in a layer from `from` on sink by one.
-pub fn sink(layer: &mut [u8; 1024], pages: usize, from: u8)
+fn sink(layer: &mut [u8; 1024], pages: usize, from: u8)
     requires { ⌜ (0 < from) × (pages ≤ 1024) × (length (now layer) ≡ 1024) ⌝ }
     ensures { λ _. ⌜ now (layer .exit) ≡ sunk from pages (now (layer .entry)) ⌝ }
 {

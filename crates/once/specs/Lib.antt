@@ -1,2 +1,3 @@
 -- No second answer. Assumes nothing.
 pub mod Once
+pub mod Parts

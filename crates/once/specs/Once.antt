@@ -37,6 +37,11 @@ abbrev pub OnceLeft :
 OnceLeft {L} {A} {R} {S} P buffer =
     (κ : L) (a : A κ) (x y : R κ) (s t : S κ) → P κ a x s → P κ a y t → (x ≡ y) × (buffer κ s ≡ buffer κ t)
 
+-- What two calls that answer nothing leave in a lent buffer.
+abbrev pub Left :
+    {L : Type 0} {A R S : L → Type 0} → ((κ : L) → A κ → R κ → S κ → Type 0) → ((κ : L) → S κ → List ℕ) → Type 0
+Left {L} {A} {R} {S} P buffer = (κ : L) (a : A κ) (x y : R κ) (s t : S κ) → P κ a x s → P κ a y t → buffer κ s ≡ buffer κ t
+
 -- ---- a run
 
 pub blank-once : Once blank.Post

@@ -1,7 +1,7 @@
 // What the trace program prints: the whole answer of a trace file, written into a lent buffer. Assumes nothing.
 ghost use mathlib.Core.Path.{_≡_};
 ghost use Prim.Native.Nat.{_+_, _≤_};
-ghost use lib.ListN.{length};
+ghost use lib.ListN.{length, replicate};
 ghost use Rattle.words.specs.Words.{put};
 ghost use Rattle.run.specs.Sound.{Sound};
 ghost use Rattle.paging.specs.Sets.{_≤?_};
@@ -14,9 +14,10 @@ use run::Run;
 // A buffer of this size has room for every answer.
 pub const ROOM: usize = 3000208;
 
-// A buffer with room for every answer. The `ensures` gives only the length, which lending the array as a slice needs.
+// A buffer with room for every answer. The second promise is what lending the array as a slice needs.
 pub fn buffer() -> [u8; 3000208]
-    ensures { λ r. ⌜ 3000208 ≡ length r ⌝ }
+    ensures bytes { λ r. ⌜ r ≡ replicate 3000208 0 ⌝ }
+    ensures size { λ r. ⌜ 3000208 ≡ length r ⌝ }
 {
     [0; 3000208]
 }

@@ -8,7 +8,7 @@ ghost use Rattle.paging.specs.Selection.{highest, together, chosen};
 ghost use Rattle.selection.specs.Marks.{marks, marked, by, layers};
 
 // C_(j-1) and L_j together.
-pub fn joined(layer: [u8; 1024], set: [bool; 1024], pages: usize, j: u8) -> [bool; 1024]
+fn joined(layer: [u8; 1024], set: [bool; 1024], pages: usize, j: u8) -> [bool; 1024]
     requires { ⌜ pages ≤ 1024 ⌝ }
     ensures { λ r. ⌜ r ≡ marks pages (together (layers layer) j (marked set)) ⌝ }
 {
@@ -44,7 +44,7 @@ fn above_of(priority: &[u16; 1024], set: &[bool; 1024], pages: usize, q: usize) 
 }
 
 // The j highest-ranking pages of a set.
-pub fn kept(priority: [u16; 1024], set: [bool; 1024], pages: usize, j: usize) -> [bool; 1024]
+fn kept(priority: [u16; 1024], set: [bool; 1024], pages: usize, j: usize) -> [bool; 1024]
     requires { ⌜ pages ≤ 1024 ⌝ }
     ensures { λ r. ⌜ r ≡ marks pages (highest pages (by priority) (marked set) j) ⌝ }
 {

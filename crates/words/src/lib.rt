@@ -18,7 +18,7 @@ pub fn read_u32(s: &[u8], at: usize) -> u32
     read_u16(s, at) as u32 + 65536 * read_u16(s, at + 2) as u32
 }
 
-pub fn write_u16(s: &mut [u8], at: usize, v: u16)
+fn write_u16(s: &mut [u8], at: usize, v: u16)
     requires { ⌜ at + 2 ≤ length (now s) ⌝ }
     ensures { λ _. ⌜ now (s .exit) ≡ put (now (s .entry)) at (bytes 2 v) ⌝ }
 {
