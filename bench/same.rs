@@ -279,6 +279,7 @@ impl Run {
         let near = &seats.near[..self.slots];
         let (counts, lows) = tables(near, &seats.keys[..self.slots], self.slots);
         let bars = bars(&counts, &lows, self.slots);
+        // The library looks at every page. Spelt so in Rust, the pass takes more time and not less.
         for q in 0..self.pages {
             let layer = self.layer[q];
             if !(marks[q] || layer == 0 || key(self.priority[q], q as u16) < bars[layer as usize]) {

@@ -49,6 +49,31 @@ answered r new (Hit s) layer held = answer (with-counts r layer held 1 0 new) (H
 answered r new (Miss s v) layer held = answer (with-counts r layer held 0 1 new) (Miss s v)
 answered r new (Refused n) layer held = refused r n
 
+-- the run as the code counts it, on a hit and on a miss
+module _ (r : Run) (new : ℕ) (e : Event) (layer held : List ℕ) where
+  abbrev counted-run : ℕ → ℕ → Run
+  counted-run hits misses =
+      record {
+        pages = r .pages;
+        slots = r .slots;
+        served = r .served + 1;
+        hits = hits;
+        misses = misses;
+        best = r .best + new;
+        layer = layer;
+        priority = r .priority;
+        held = held;
+      }
+
+  pub hit-answered : (s : ℕ) → e ≡ Hit s → answer (counted-run (r .hits + 1) (r .misses)) (Hit s) ≡ answered r new e layer held
+  unfolding answered with-counts
+  hit-answered s h = let none : r .misses + 0 ≡ r .misses = omega arith in rw (h, none)
+
+  pub miss-answered :
+      (s v : ℕ) → e ≡ Miss s v → answer (counted-run (r .hits) (r .misses + 1)) (Miss s v) ≡ answered r new e layer held
+  unfolding answered with-counts
+  miss-answered s v h = let none : r .hits + 0 ≡ r .hits = omega arith in rw (h, none)
+
 module _ (r : Run) (p : ℕ) where
   abbrev pub event : Event
   event = event-of (r .pages) (r .slots) p (r .layer) (r .priority) (r .held)

@@ -1,5 +1,6 @@
 -- The soundness test as the code makes it: the limits, the counts, then the tables. Assumes nothing.
 use mathlib.Core.Bool.{Bool, true, false}
+use mathlib.Core.List.{List}
 use mathlib.Core.Path.{_≡_, sym, _∙_}
 use Prim.Native.Nat.{ℕ, _+_, _≤_}
 use Rattle.run.specs.declared.Run.{Run}
@@ -12,6 +13,21 @@ use Rattle.run.specs.Numbers.{most-served}
 use Rattle.run.specs.Sound.{Sound, sound}
 use Rattle.run.specs.SoundLaws.{sound-iff}
 use Rattle.run.specs.RequestLaws.{run-layered, run-cached}
+
+-- The run of some parts.
+abbrev pub of-parts : ℕ → ℕ → ℕ → ℕ → ℕ → ℕ → List ℕ → List ℕ → List ℕ → Run
+of-parts pages slots served hits misses best layer priority held =
+    record {
+      pages = pages;
+      slots = slots;
+      served = served;
+      hits = hits;
+      misses = misses;
+      best = best;
+      layer = layer;
+      priority = priority;
+      held = held;
+    }
 
 -- a run that breaks a clause is not sound
 pub unsound : (r : Run) → (Sound r → ⊥) → false ≡ sound r

@@ -9,7 +9,9 @@ use Prim.Native.Nat.{ℕ, _+_, _≤_, _<_}
 use native.Mathlib.Omega.{arith}
 use lib.Dec.{eqb}
 use lib.ListN.{set}
+use Rattle.serve.specs.declared.Event.{Event}
 use Rattle.serve.specs.declared.Event.the-variants.{Hit, Miss, Refused}
+use Rattle.serve.specs.Step.{Stepped}
 use Rattle.run.specs.declared.Run.{Run}
 use Rattle.run.specs.declared.Served.{Served}
 use Rattle.paging.specs.Sets.{_∈_, bit, remove, insert}
@@ -33,6 +35,7 @@ use Rattle.run.specs.RequestLaws.{swapped-set, miss-sound}
 use Rattle.run.specs.StartLaws.{start-layers-are, start-cached, start-sound, Accepted, accepted, started-sound}
 use Rattle.run.specs.Requesting.{request-refusal, refuse-page, refuse-served, refuse-none, not-refused, requested-refused}
 use Rattle.run.specs.Requesting.{requested-served}
+use Rattle.run.specs.Serving.{answered, event, served-answered}
 use Rattle.run.specs.History.{Begun, first-run, Comes-from, begins, serves}
 
 -- ---- A request of a page below N, to a sound run that may serve one more, is a hit or a miss.
@@ -200,6 +203,22 @@ module _ (r : Run) (w : Sound r) (p : ℕ) where
       let o : _≡_ {A = ℕ} 0 1 = cc in
       omega arith)
       (hit-or-miss r w p l room)
+
+  -- nor is the step that the code makes
+  pub step-not-refused :
+      p < r .pages →
+      r .served < most-served →
+      {e : Event} {layer′ held′ near′ keys′ : List ℕ} →
+      Stepped (r .pages) (r .slots) p (r .layer) (r .priority) (r .held) e layer′ held′ near′ keys′ →
+      {n : ℕ} →
+      e ≡ Refused n →
+      ⊥
+  unfolding answered
+  step-not-refused l room st {n} h =
+      let is : event r p ≡ Refused n = sym (st .event-is) ∙ h in
+      never-refused l room n
+      (ap (λ (s : Served). s .event) (answers r w p l room ∙ served-answered r p)
+      ∙ rw is)
 
   pub never-17 : requested r p .event ≡ Refused 17 → ⊥
   never-17 e =

@@ -2,15 +2,16 @@
 // Assumes nothing.
 ghost use mathlib.Core.Path.{_≡_};
 ghost use Prim.Native.Nat.{_+_, _≤_, _<_};
+ghost use lib.ListN.{length};
 ghost use Rattle.paging.specs.Sets.{_=?_, bit};
 ghost use Rattle.run.specs.Numbers.{most-served, blank-run};
 ghost use Rattle.run.specs.Start.{started, started-default};
 ghost use Rattle.run.specs.Starting.{list-refusal, begun-run};
 ghost use Rattle.run.specs.Sound.{Sound, sound};
+ghost use Rattle.run.specs.Testing.{of-parts};
 ghost use Rattle.run.specs.Request.{served, refused, requested, request-values, tried};
 ghost use Rattle.serve.specs.Event.{values};
 ghost use Rattle.run.specs.Questions.{refusal, layer-answer, certain-answer, selection-answer};
-ghost use Rattle.run.specs.Serving.{with-counts, answered};
 ghost use Rattle.image.specs.Layout.{image-refusal};
 ghost use Rattle.run.specs.Stored.{image-run, restored, restore-refusal, reading-number, store-refusal, stored, stored-bytes};
 use serve::Event;
@@ -172,40 +173,47 @@ impl Run {
         }
     }
 
-    // The run after a served request: other tables, and counts added.
-    fn counted(mut self, layer: [u8; 1024], held: [u16; 64], hit: u32, miss: u32, new: u32) -> Self
-        requires { ⌜ (self .served + 1 ≤ 4294967295) × (self .hits + hit ≤ 4294967295) × (self .misses + miss ≤ 4294967295) × (self .best + new ≤ 4294967295) ⌝ }
-        ensures { λ r. ⌜ r ≡ with-counts self layer held hit miss new ⌝ }
+    // A request of a page to a run that is known to be sound, and may serve one more: O(N + k), and no test inside. No
+    // part of it is a function that takes the run: each would copy it.
+    pub fn serve(mut self, page: usize) -> Served
+        requires { ⌜ Sound self × (page < self .pages) × (self .served < most-served) ⌝ }
+        ensures { λ r. ⌜ r ≡ served self page ⌝ }
     {
-        self.served += 1;
-        self.hits += hit;
-        self.misses += miss;
-        self.best += new;
+        let pages = self.pages;
+        let slots = self.slots;
+        let mut layer = self.layer;
+        let mut held = self.held;
+        let mut near = slots::nears(&layer, &held, slots);
+        let mut keys = slots::keys(&self.priority, &held, slots);
+        let new = Run::new_page(layer[page]);
+        let event = serve::step(
+            &mut layer,
+            &self.priority,
+            &mut held,
+            &mut near,
+            &mut keys,
+            pages,
+            (slots % 256) as u8,
+            (page % 65536) as u16,
+        );
         self.layer = layer;
         self.held = held;
-        self
-    }
-
-    // The answer of a request, from its event and the tables after it.
-    fn answered(self, event: Event, layer: [u8; 1024], held: [u16; 64], new: u32) -> Served
-        requires { ⌜ (self .served + 1 ≤ 4294967295) × (self .hits + 1 ≤ 4294967295) × (self .misses + 1 ≤ 4294967295) × (self .best + 1 ≤ 4294967295) × (new ≤ 1) ⌝ }
-        ensures { λ r. ⌜ r ≡ answered self new event layer held ⌝ }
-    {
+        self.served += 1;
+        self.best += new;
+        let best = self.best;
         match event {
             Event::Hit { slot } => {
-                let run = self.counted(layer, held, 1, 0, new);
-                let best = run.best;
+                self.hits += 1;
                 Served {
-                    run,
+                    run: self,
                     event: Event::Hit { slot },
                     best,
                 }
             }
             Event::Miss { slot, victim } => {
-                let run = self.counted(layer, held, 0, 1, new);
-                let best = run.best;
+                self.misses += 1;
                 Served {
-                    run,
+                    run: self,
                     event: Event::Miss { slot, victim },
                     best,
                 }
@@ -218,32 +226,6 @@ impl Run {
         }
     }
 
-    // A request of a page to a run that is known to be sound, and may serve one more: O(N + k), and no test inside.
-    pub fn serve(self, page: usize) -> Served
-        requires { ⌜ Sound self × (page < self .pages) × (self .served < most-served) ⌝ }
-        ensures { λ r. ⌜ r ≡ served self page ⌝ }
-    {
-        let pages = self.pages;
-        let slots = self.slots;
-        let priority = self.priority;
-        let mut layer = self.layer;
-        let mut held = self.held;
-        let mut near = slots::nears(&layer, &held, slots);
-        let mut keys = slots::keys(&priority, &held, slots);
-        let new = Run::new_page(layer[page]);
-        let event = serve::step(
-            &mut layer,
-            &priority,
-            &mut held,
-            &mut near,
-            &mut keys,
-            pages,
-            (slots % 256) as u8,
-            (page % 65536) as u16,
-        );
-        self.answered(event, layer, held, new)
-    }
-
     // 1 for layer 0, else 0.
     fn new_page(layer: u8) -> u32
         ensures { λ r. ⌜ r ≡ bit (layer =? 0) ⌝ }
@@ -251,28 +233,55 @@ impl Run {
         if layer == 0 { 1 } else { 0 }
     }
 
-    // Whether the run is sound. Hits and misses are not added before it is known that the sum fits.
-    pub fn is_sound(self) -> bool
-        ensures { λ r. ⌜ r ≡ sound self ⌝ }
+    // Whether the run of some parts is sound. Hits and misses are not added before it is known that the sum fits. It takes the
+    // parts, so that a request need not copy the run to have it tested.
+    fn sound_parts<'a>(
+        pages: usize,
+        slots: usize,
+        served: u32,
+        hits: u32,
+        misses: u32,
+        best: u32,
+        layer: &'a [u8; 1024],
+        priority: &'a [u16; 1024],
+        held: &'a [u16; 64],
+    ) -> bool
+        requires { ⌜ (length (now layer) ≡ 1024) × (length (now priority) ≡ 1024) × (length (now held) ≡ 64) ⌝ }
+        ensures { λ r. ⌜ r ≡ sound (of-parts pages slots served hits misses best (now (layer .entry)) (now (priority .entry)) (now (held .entry))) ⌝ }
     {
-        let pages = self.pages;
-        let slots = self.slots;
         if begin::limits_refusal(pages, slots) != 0 {
             return false;
         }
-        if Run::MAX_SERVED < self.served {
+        if Run::MAX_SERVED < served {
             return false;
         }
-        if self.served < self.hits {
+        if served < hits {
             return false;
         }
-        if self.served - self.hits != self.misses {
+        if served - hits != misses {
             return false;
         }
-        if self.misses < self.best {
+        if misses < best {
             return false;
         }
-        certify::tables(&self.layer, &self.priority, &self.held, pages, slots)
+        certify::tables(layer, priority, held, pages, slots)
+    }
+
+    // Whether the run is sound.
+    pub fn is_sound(self) -> bool
+        ensures { λ r. ⌜ r ≡ sound self ⌝ }
+    {
+        Run::sound_parts(
+            self.pages,
+            self.slots,
+            self.served,
+            self.hits,
+            self.misses,
+            self.best,
+            &self.layer,
+            &self.priority,
+            &self.held,
+        )
     }
 
     fn refused(self, number: u8) -> Served
@@ -304,10 +313,27 @@ impl Run {
         ensures answer { λ r. ⌜ r ≡ requested self page ⌝ }
         ensures numbers { λ r. ⌜ values (r .event) ≡ request-values self page ⌝ }
     {
-        if !self.is_sound() {
+        let is_sound = Run::sound_parts(
+            self.pages,
+            self.slots,
+            self.served,
+            self.hits,
+            self.misses,
+            self.best,
+            &self.layer,
+            &self.priority,
+            &self.held,
+        );
+        if !is_sound {
             return self.refused(1);
         }
-        self.request_of_sound(page)
+        if page >= self.pages {
+            return self.refused(8);
+        }
+        if Run::MAX_SERVED <= self.served {
+            return self.refused(9);
+        }
+        self.serve(page)
     }
 
     // Answers as a request would, and keeps nothing: this run comes back.

@@ -1,25 +1,27 @@
--- `certify::none_late` meets its contract. The loop's invariant: each page passed is in time, and a read has told that priorities are
--- 16 bits wide. Assumes nothing.
+-- `certify::none_late` meets its contract. The loop's invariant: `all` says whether each page passed is in time, and a read has told
+-- that priorities are 16 bits wide. Assumes nothing.
 use Prim.Native.Nat.{_-_, _≤_, _<_}
-use mathlib.Core.Path.{_≡_, _∙_}
+use mathlib.Core.Path.{_≡_, refl, sym, _∙_}
+use mathlib.Core.Bool.{_&&_}
 use native.Mathlib.Omega.{arith}
 use lib.ListN.{getD}
 use borrow.Author.Needs.{needs}
-use borrow.Author.Tests.{not-true, not-false}
+use Rattle.paging.specs.Sets.{each}
 use Rattle.certify.specs.Test.{Narrow}
-use Rattle.certify.proofs.Passes.{Passed, passed-none, passed-more, passed-all, failed, timely, timely-is}
+use Rattle.certify.proofs.Passes.{each-more, each-all, timely, timely-is}
 use Rattle.certify.proofs.none_late.Statement.{statement}
 use Rattle.certify.proofs.none_late.Tie as tie
 
 abbrev Inv-loop : tie.InvT-loop
-Inv-loop layer priority marks bars pages numbers q₀ q =
-    (q ≤ pages) × Passed (timely marks layer priority bars) q × (0 < q → Narrow priority)
+Inv-loop layer priority marks bars pages numbers q₀ all₀ q all =
+    (q ≤ pages) × (all ≡ each q (timely marks layer priority bars)) × (0 < q → Narrow priority)
 
 abbrev μ-loop : tie.MeasureT-loop
-μ-loop layer priority marks bars pages numbers q₀ q = pages - q
+μ-loop layer priority marks bars pages numbers q₀ all₀ q all = pages - q
 
 loop-holds : tie.Need-loop-holds Inv-loop μ-loop
-loop-holds c = (search needs, passed-none _, λ l. absurd (omega arith))
+unfolding each
+loop-holds c = (search needs, refl, λ l. absurd (omega arith))
 
 element-copy-out-l : tie.Need-element-copy-out-l Inv-loop μ-loop
 element-copy-out-l c = search needs
@@ -55,6 +57,15 @@ element-copy-out-in-time-2 c = omega (arith, low (c .before .before .before .bef
 in-time-requires : tie.Need-in-time-requires Inv-loop μ-loop
 in-time-requires c κs = search needs
 
+both-requires : tie.Need-both-requires Inv-loop μ-loop
+both-requires c κs = search needs
+
+add-q : tie.Need-add-q Inv-loop μ-loop
+add-q c = search needs
+
+loop-less : tie.Need-loop-less Inv-loop μ-loop
+loop-less c = search needs
+
 -- the test of this turn's page
 page :
     (c : tie.After-in-time Inv-loop μ-loop) →
@@ -81,26 +92,20 @@ narrow :
     Narrow (c .before .before .before .before .before .args .priority .now)
 narrow c q = omega (arith, c .shared-slice-known .given q)
 
-returns : tie.Need-returns Inv-loop μ-loop
-returns c =
-    let known = c .before .before .before .before .before in
-    let turn = known .before .before in
-    (failed _ _ _ (turn .loop-test .taken) (page (c .before) ∙ not-true _ (c .if1 .taken)), λ l. narrow known)
-
-add-q : tie.Need-add-q Inv-loop μ-loop
-add-q c = search needs
-
-loop-less : tie.Need-loop-less Inv-loop μ-loop
-loop-less c = search needs
-
 loop-again : tie.Need-loop-again Inv-loop μ-loop
 loop-again c =
     let known = c .before .before .before .before .before in
-    let passed = known .before .before .before .loop .inv .1 in
-    (search needs, passed-more passed (page (c .before) ∙ not-false _ (c .if1 .left)), λ l. narrow known)
+    let before = known .before .before .before .loop .inv .1 in (
+      search needs,
+      each-more _ _ _ _ before (c .both .ensures ∙ rw (← page (c .before))),
+      λ l. narrow known,
+    )
 
-returns-2 : tie.Need-returns-2 Inv-loop μ-loop
-returns-2 c = (passed-all (c .before .loop .inv .1) (search needs) (search needs), λ l. c .before .loop .inv .2 (omega arith))
+returns : tie.Need-returns Inv-loop μ-loop
+returns c = (
+  each-all _ _ _ _ (search needs) (search needs) (c .before .loop .inv .1),
+  λ l. c .before .loop .inv .2 (omega arith),
+)
 
 pub none-late-spec : {M : Type 1} → statement M
 none-late-spec =
@@ -119,8 +124,8 @@ none-late-spec =
     mul-in-time
     element-copy-out-in-time-2
     in-time-requires
-    returns
+    both-requires
     add-q
     loop-less
     loop-again
-    returns-2)
+    returns)

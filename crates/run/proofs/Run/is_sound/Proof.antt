@@ -1,54 +1,13 @@
--- `Run::is_sound` meets its contract: each early answer breaks a clause, and at the end the tables decide. Assumes nothing.
-use mathlib.Core.Path.{_≡_, sym, _∙_}
-use native.Mathlib.Omega.{arith}
+-- `Run::is_sound` meets its contract: a run is that of its parts. Assumes nothing.
 use borrow.Author.Needs.{needs}
-use Rattle.begin.specs.LimitLaws.{limits-hold}
-use Rattle.run.specs.Testing.{unsound, unsound-limits, tables-decide}
 use Rattle.run.proofs.Run.is_sound.Statement.{statement}
 use Rattle.run.proofs.Run.is_sound.Tie as tie
 
-limits-refusal-requires : tie.Need-limits-refusal-requires
-limits-refusal-requires c κs = search needs
+sound-parts-requires : tie.Need-sound-parts-requires
+sound-parts-requires c κs = search needs
 
 returns : tie.Need-returns
-returns c = unsound-limits _ _ (c .before .limits-refusal .ensures) (search needs)
-
-returns-2 : tie.Need-returns-2
-returns-2 c = unsound _ (λ w. omega (arith, w .served))
-
-returns-3 : tie.Need-returns-3
-returns-3 c = unsound _ (λ w. omega (arith, w .counts))
-
-sub-if4 : tie.Need-sub-if4
-sub-if4 c = search needs
-
-returns-4 : tie.Need-returns-4
-returns-4 c = unsound _ (λ w. omega (arith, w .counts))
-
-returns-5 : tie.Need-returns-5
-returns-5 c = unsound _ (λ w. omega (arith, w .best))
-
-tables-requires : tie.Need-tables-requires
-tables-requires c κs =
-    let z : c .before .before .before .before .before .before .before .before .before .limits-refusal .result ≡ 0 = search needs in
-    (limits-hold _ _ (sym (c .before .before .before .before .before .before .before .before .before .limits-refusal .ensures) ∙ z), (search needs, search needs, search needs))
-
-returns-6 : tie.Need-returns-6
-returns-6 c =
-    let z : c .before .before .before .before .before .before .before .before .before .before .limits-refusal .result ≡ 0 = search needs in
-    let limits = limits-hold _ _ (sym (c .before .before .before .before .before .before .before .before .before .before .limits-refusal .ensures) ∙ z) in
-    c .tables .ensures ∙ tables-decide _ limits (search needs) (search needs) (search needs)
+returns c = c .sound-parts .ensures
 
 pub is-sound-spec : {M : Type 1} → statement M
-is-sound-spec =
-    tie.close
-    (tie.spec
-    limits-refusal-requires
-    returns
-    returns-2
-    returns-3
-    sub-if4
-    returns-4
-    returns-5
-    tables-requires
-    returns-6)
+is-sound-spec = tie.close (tie.spec sound-parts-requires returns)
