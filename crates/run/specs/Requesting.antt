@@ -27,6 +27,13 @@ request-refusal r p =
     unless r .served <? most-served give 9 else
     0
 
+-- The same of a run that is sound, by its numbers: 8, 9, or 0.
+unfoldable pub sound-refusal : ℕ → ℕ → ℕ → ℕ
+sound-refusal N served p =
+    unless p <? N give 8 else
+    unless served <? most-served give 9 else
+    0
+
 -- ---- the paper's values of the answer
 
 missed-values : (r : Run) (p : ℕ) (v : Option ℕ) → values (with-miss r p v .event) ≡ miss-values r v
@@ -61,12 +68,29 @@ requested-values r p = go (sound r) (ltb p (r .pages)) (ltb (r .served) most-ser
 pub with-values : (r : Run) (p : ℕ) (x : Served) → x ≡ requested r p → (x ≡ requested r p) × (values (x .event) ≡ request-values r p)
 with-values r p x e = (e, ap (λ (y : Served). values (y .event)) e ∙ requested-values r p)
 
+module _ (N count p : ℕ) where
+  pub number-page : N ≤ p → 8 ≡ sound-refusal N count p
+  unfolding sound-refusal
+  number-page h = rw (le-ltb p N h)
+
+  pub number-served : p < N → most-served ≤ count → 9 ≡ sound-refusal N count p
+  unfolding sound-refusal
+  number-served l h = rw (lt-ltb p N l, le-ltb count most-served h)
+
+  pub number-none : p < N → count < most-served → 0 ≡ sound-refusal N count p
+  unfolding sound-refusal
+  number-none l h = rw (lt-ltb p N l, lt-ltb count most-served h)
+
 module _ (r : Run) (p : ℕ) where
   pub refuse-unsound : sound r ≡ false → 1 ≡ request-refusal r p
   unfolding request-refusal
   refuse-unsound e = rw e
 
   module _ (e : sound r ≡ true) where
+    pub refusal-of-sound : (n : ℕ) → n ≡ sound-refusal (r .pages) (r .served) p → n ≡ request-refusal r p
+    unfolding sound-refusal request-refusal
+    refusal-of-sound n h = h ∙ rw e
+
     pub refuse-page : r .pages ≤ p → 8 ≡ request-refusal r p
     unfolding request-refusal
     refuse-page h = rw (e, le-ltb p (r .pages) h)

@@ -10,6 +10,7 @@ ghost use Rattle.run.specs.Starting.{list-refusal, begun-run};
 ghost use Rattle.run.specs.Sound.{Sound, sound};
 ghost use Rattle.run.specs.Testing.{of-parts};
 ghost use Rattle.run.specs.Request.{served, refused, requested, request-values, tried};
+ghost use Rattle.run.specs.Requesting.{sound-refusal};
 ghost use Rattle.serve.specs.Event.{values};
 ghost use Rattle.run.specs.Questions.{refusal, layer-answer, certain-answer, selection-answer};
 ghost use Rattle.image.specs.Layout.{image-refusal};
@@ -294,21 +295,33 @@ impl Run {
         }
     }
 
+    // The refusal of a request to a sound run, by its numbers: 8, 9, or 0.
+    fn sound_refusal(pages: usize, served: u32, page: usize) -> u8
+        ensures { λ r. ⌜ r ≡ sound-refusal pages served page ⌝ }
+    {
+        if page >= pages {
+            return 8;
+        }
+        if Run::MAX_SERVED <= served {
+            return 9;
+        }
+        0
+    }
+
     // A request to a run that is known to be sound: refusals 8, 9, 17, and no test of the whole run.
     pub fn request_of_sound(self, page: usize) -> Served
         requires { ⌜ Sound self ⌝ }
         ensures { λ r. ⌜ r ≡ requested self page ⌝ }
     {
-        if page >= self.pages {
-            return self.refused(8);
-        }
-        if Run::MAX_SERVED <= self.served {
-            return self.refused(9);
+        let refusal = Run::sound_refusal(self.pages, self.served, page);
+        if refusal != 0 {
+            return self.refused(refusal);
         }
         self.serve(page)
     }
 
-    // Serves a request: the next run with the event, and best with this request counted. Refusals 1, 8, 9, 17: then this run.
+    // Serves a request: the next run with the event, and best with this request counted. Refusals 1, 8, 9, 17: then this run. The
+    // run is not handed on before it is served, since each function that takes it copies it.
     pub fn request(mut self, page: usize) -> Served
         ensures answer { λ r. ⌜ r ≡ requested self page ⌝ }
         ensures numbers { λ r. ⌜ values (r .event) ≡ request-values self page ⌝ }
@@ -327,11 +340,9 @@ impl Run {
         if !is_sound {
             return self.refused(1);
         }
-        if page >= self.pages {
-            return self.refused(8);
-        }
-        if Run::MAX_SERVED <= self.served {
-            return self.refused(9);
+        let refusal = Run::sound_refusal(self.pages, self.served, page);
+        if refusal != 0 {
+            return self.refused(refusal);
         }
         self.serve(page)
     }

@@ -1,0 +1,17 @@
+-- `Run::sound_refusal` meets its contract, by its tests in their order. Assumes nothing.
+use Rattle.run.specs.Requesting.{number-page, number-served, number-none}
+use borrow.Author.Needs.{needs}
+use Rattle.run.proofs.Run.sound_refusal.Statement.{statement}
+use Rattle.run.proofs.Run.sound_refusal.Tie as tie
+
+returns : tie.Need-returns
+returns c = number-page _ _ _ (search needs)
+
+returns-2 : tie.Need-returns-2
+returns-2 c = number-served _ _ _ (search needs) (search needs)
+
+returns-3 : tie.Need-returns-3
+returns-3 c = number-none _ _ _ (search needs) (search needs)
+
+pub sound-refusal-spec : {M : Type 1} → statement M
+sound-refusal-spec = tie.close (tie.spec returns returns-2 returns-3)
