@@ -1,17 +1,15 @@
 -- Laws of the answers' texts: the record that is stored, an answer that ends with its refusal or goes on, and words that stand
 -- for something or not. Assumes nothing.
-use mathlib.Core.Bool.{Bool, true, false}
-use mathlib.Core.List.{List, [], _++_}
+use mathlib.Core.Bool.{true, false}
+use mathlib.Core.List.{List, _++_}
 use mathlib.Core.Logic.{_⊎_, inl, inr, ⊎-elim}
 use mathlib.Core.Option.{Option, none, some}
-use mathlib.Core.Path.{_≡_, refl, sym, ap, _∙_}
-use Prim.Native.Nat.{ℕ, _+_, _*_, _≤_}
+use mathlib.Core.Path.{_≡_, _∙_}
+use Prim.Native.Nat.{ℕ, _+_, _≤_}
 use native.Mathlib.Omega.{arith}
 use borrow.Author.Tests.{eq-eqb, ne-eqb}
 use lib.ListN.{length, take}
-use Rattle.paging.specs.Sets.{_=?_}
 use Rattle.paging.specs.Tests.{truth}
-use Rattle.words.specs.Words.{put}
 use Rattle.words.specs.Laws.{take-put}
 use Rattle.image.specs.Layout.{image-length}
 use Rattle.image.specs.Theorems.{stored-length}
@@ -19,7 +17,7 @@ use Rattle.run.specs.declared.Run.{Run}
 use Rattle.run.specs.declared.Stored.{Stored}
 use Rattle.run.specs.Sound.{sound}
 use Rattle.run.specs.SoundLaws.{sound-iff}
-use Rattle.run.specs.Stored.{image-of, store-refusal, stored, stored-bytes}
+use Rattle.run.specs.Stored.{image-of, stored, stored-bytes}
 use Rattle.run.specs.Storing.{store-unsound, store-none, length-is}
 use Rattle.hex.specs.Laws.{Told, told-then}
 use Rattle.fields.specs.declared.Value.{Value}
@@ -28,7 +26,7 @@ use Rattle.asked.specs.declared.Described.{Described}
 use Rattle.asked.specs.declared.Paged.{Paged}
 use Rattle.asked.specs.Asked.{described, paged}
 use Rattle.asked.specs.Laws.{good-run, bad-run, good-page, bad-page}
-use Rattle.answers.specs.Answers.{Texts, bad-line, refusal-texts, bytes-texts, record-of, record-texts, unless-refused, with-number, with-list, with-run, with-page}
+use Rattle.answers.specs.Answers.{Texts, bad-line, refusal-texts, record-of, unless-refused, with-number, with-list, with-run, with-page}
 
 -- ---- the record of a run
 

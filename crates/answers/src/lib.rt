@@ -1,8 +1,7 @@
 // The words of an answer, written at an offset of a lent buffer; each answers the offset behind it. Assumes nothing.
 ghost use mathlib.Core.Path.{_≡_};
 ghost use Rattle.hex.specs.Room.{placed-all, behind-all};
-ghost use Rattle.answers.specs.Answers.{bad-line, refusal-texts, number-texts, bytes-texts, record-of, record-texts, event-texts};
-ghost use lib.ListN.{take};
+ghost use Rattle.answers.specs.Answers.{bad-line, refusal-texts, number-texts, bytes-texts, record-texts, event-texts};
 ghost use Rattle.run.specs.Stored.{stored};
 use run::Run;
 use serve::Event;

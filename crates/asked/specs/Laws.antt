@@ -6,8 +6,6 @@ use mathlib.Core.Logic.{_⊎_, inl, inr}
 use mathlib.Core.Path.{_≡_, refl, sym, ap, _∙_}
 use Prim.Native.Nat.{ℕ}
 use borrow.Author.Tests.{eq-eqb, ne-eqb}
-use lib.ListN.{take}
-use Rattle.paging.specs.Sets.{_=?_}
 use Rattle.paging.specs.Tests.{clash}
 use Rattle.image.specs.Layout.{pages-in, slots-in, image-refusal, marks-agree}
 use Rattle.run.specs.declared.Run.{Run}

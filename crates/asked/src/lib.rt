@@ -2,7 +2,6 @@
 ghost use mathlib.Core.Path.{_≡_};
 ghost use lib.ListN.{length, replicate};
 ghost use Rattle.image.specs.Layout.{image-refusal};
-ghost use Rattle.fields.specs.Fields.{word-of};
 ghost use Rattle.asked.specs.Asked.{number-in, run-in, run-of, no-run, described, no-page, paged-of};
 use fields::Value;
 use hex::Count;

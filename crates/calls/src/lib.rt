@@ -1,15 +1,12 @@
-// The questions about a run: the words of a line are read, the public call is made, and its answer written at an offset, which
-// the offset behind it answers. Assumes nothing.
+// The questions about a run: the words of a line are read, the public call is made, and its answer written at an offset; each
+// answers the offset behind it. Assumes nothing.
 ghost use mathlib.Core.Path.{_≡_};
-ghost use mathlib.Core.List.{_++_};
 ghost use Prim.Native.Nat.{_+_, _<_};
 ghost use lib.ListN.{length, set};
 ghost use Rattle.paging.specs.Sets.{if_then_else_, bit};
 ghost use Rattle.words.specs.Words.{put};
 ghost use Rattle.hex.specs.Room.{placed-all, behind-all};
-ghost use Rattle.fields.specs.Fields.{list-in};
-ghost use Rattle.asked.specs.Asked.{most-in-word};
-ghost use Rattle.answers.specs.Answers.{number-texts, unless-refused, with-list};
+ghost use Rattle.answers.specs.Answers.{number-texts, unless-refused};
 ghost use Rattle.calls.specs.Calls.{pages-of, started-texts, given-texts, prioritised-texts, served-texts};
 ghost use Rattle.calls.specs.Calls.{start-answer, request-answer, trial-answer, layer-answer, certain-answer, selection-answer, sound-answer};
 use fields::Value;

@@ -1,6 +1,6 @@
 -- The questions about frames, files and images, and their answers as texts. Assumes nothing.
 use mathlib.Core.List.{List, _++_}
-use Prim.Native.Nat.{ℕ, _%_}
+use Prim.Native.Nat.{ℕ}
 use Rattle.paging.specs.Sets.{if_then_else_}
 use Rattle.ranking.specs.Defaults.{default-priorities}
 use Rattle.run.specs.declared.Run.{Run}
@@ -12,7 +12,6 @@ use Rattle.frames.specs.Frames.{fill-refusal, filled, look-refusal, looked}
 use Rattle.trace.specs.declared.Traced.{Traced}
 use Rattle.trace.specs.Layout.{traced, written, written-bytes}
 use Rattle.board.specs.Board as board
-use Rattle.text.specs.Text.{decimal}
 use Rattle.fields.specs.Fields.{word-of, list-in, bytes-in, same-text}
 use Rattle.asked.specs.Asked.{most-in-word, word-default, number-in, run-of}
 use Rattle.answers.specs.Answers.{Texts, refusal-texts, number-texts, bytes-texts, record-texts, unless-refused, with-number, with-list, with-run, with-page}

@@ -1,14 +1,10 @@
 // The questions about frames, files and images: the words of a line are read, the public call is made, and its answer written at
 // an offset; each answers the offset behind it. Assumes nothing.
 ghost use mathlib.Core.Path.{_≡_};
-ghost use lib.ListN.{length, take};
-ghost use Rattle.ranking.specs.Defaults.{default-priorities};
+ghost use lib.ListN.{length};
 ghost use Rattle.hex.specs.Room.{placed-all, behind-all};
 ghost use Rattle.frames.specs.Frames.{filled};
-ghost use Rattle.trace.specs.Layout.{written-bytes};
-ghost use Rattle.run.specs.Stored.{stored-bytes};
-ghost use Rattle.board.specs.Board.{board-image};
-ghost use Rattle.files.specs.Files.{filled-texts, fill-texts, looked-texts, traced-texts, written-texts, trace-texts};
+ghost use Rattle.files.specs.Files.{filled-texts, fill-texts, looked-texts, traced-texts, written-texts};
 ghost use Rattle.files.specs.Files.{given-texts, prioritised-texts, requested-texts, restored-texts, stored-texts, boarded-texts};
 ghost use Rattle.files.specs.Files.{fill-answer, look-answer, readtrace-answer, writetrace-answer, readimage-answer, writeimage-answer, board-answer};
 use fields::Value;

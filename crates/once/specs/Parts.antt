@@ -1,8 +1,6 @@
 -- No second answer meets the contract of a part: of each public function below the calls and of the programs' parts. As in Once,
 -- `C.Post` is the contract as the checker holds the code to it. Assumes nothing.
-use mathlib.Core.List.{List}
 use mathlib.Core.Path.{_≡_, sym, ap, _∙_}
-use Prim.Native.Nat.{ℕ}
 use Rattle.run.specs.declared.Served.{Served}
 use Rattle.replay.specs.declared.Turn.{Turn}
 use Rattle.once.specs.Once.{Once, OnceLeft, Left}

@@ -1,6 +1,6 @@
 -- `asked::read_run` meets its contract, by what was read. Assumes nothing.
 use mathlib.Core.Option.{some}
-use mathlib.Core.Path.{_≡_, sym, ap, _∙_}
+use mathlib.Core.Path.{sym, ap, _∙_}
 use Prim.Native.Nat.{ℕ}
 use lib.ListN.{length-replicate}
 use Rattle.fields.specs.Reading.{some-bytes, no-bytes-in}

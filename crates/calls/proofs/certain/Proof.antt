@@ -1,5 +1,4 @@
 -- `calls::certain` meets its contract, by what was read. Assumes nothing.
-use mathlib.Core.Path.{_≡_, sym, ap, _∙_}
 use borrow.Author.Tests.{not-true, not-false}
 use Rattle.answers.specs.Laws.{page-known, page-bad}
 use Rattle.calls.specs.Calls.{certain-answer, of-page, certain-texts}

@@ -1,7 +1,6 @@
 -- `calls::sound` meets its contract, by what was read. Assumes nothing.
-use mathlib.Core.Path.{_≡_, sym, ap, _∙_}
 use borrow.Author.Tests.{not-true, not-false}
-use Rattle.hex.specs.Laws.{one-told, told-then}
+use Rattle.hex.specs.Laws.{one-told}
 use Rattle.answers.specs.Laws.{run-known, run-bad}
 use Rattle.calls.specs.Calls.{sound-answer}
 use borrow.Author.Needs.{needs}

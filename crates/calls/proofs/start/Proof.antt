@@ -1,11 +1,11 @@
 -- `calls::start` meets its contract, by what was read. Assumes nothing.
 use mathlib.Core.Option.{some}
-use mathlib.Core.Path.{_≡_, sym, ap, _∙_}
+use mathlib.Core.Path.{sym, ap, _∙_}
 use Rattle.fields.specs.Reading.{some-numbers, no-numbers-in}
 use Rattle.answers.specs.Laws.{number-known, number-bad, list-known, list-bad}
 use Rattle.fields.specs.Fields.{list-in}
 use Rattle.asked.specs.Asked.{most-in-word, number-in}
-use Rattle.calls.specs.Calls.{start-answer, prioritised-texts}
+use Rattle.calls.specs.Calls.{start-answer}
 use borrow.Author.Needs.{needs}
 use Rattle.calls.proofs.start.Statement.{statement}
 use Rattle.calls.proofs.start.Tie as tie

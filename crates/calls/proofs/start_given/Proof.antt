@@ -1,6 +1,6 @@
 -- `calls::start_given` meets its contract, by what was read. Assumes nothing.
 use mathlib.Core.Option.{some}
-use mathlib.Core.Path.{_≡_, sym, ap, _∙_}
+use mathlib.Core.Path.{sym, ap, _∙_}
 use Rattle.fields.specs.Reading.{some-numbers, no-numbers-in}
 use Rattle.answers.specs.Laws.{list-known, list-bad}
 use Rattle.calls.specs.Calls.{given-texts}

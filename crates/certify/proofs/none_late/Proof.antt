@@ -1,8 +1,7 @@
 -- `certify::none_late` meets its contract. The loop's invariant: `all` says whether each page passed is in time, and a read has told
 -- that priorities are 16 bits wide. Assumes nothing.
 use Prim.Native.Nat.{_-_, _≤_, _<_}
-use mathlib.Core.Path.{_≡_, refl, sym, _∙_}
-use mathlib.Core.Bool.{_&&_}
+use mathlib.Core.Path.{_≡_, refl, _∙_}
 use native.Mathlib.Omega.{arith}
 use lib.ListN.{getD}
 use borrow.Author.Needs.{needs}

@@ -1,6 +1,5 @@
 -- `fields::write_more` meets its contract: what is left, written behind what is there, makes the whole. Assumes nothing.
 use Prim.Native.Nat.{_-_}
-use mathlib.Core.Path.{_≡_}
 use lib.ListN.{length}
 use borrow.Author.Needs.{needs}
 use Rattle.fields.proofs.Lists.{Listing, listing-first, listing-next, listing-last}

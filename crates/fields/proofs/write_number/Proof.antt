@@ -1,5 +1,4 @@
 -- `fields::write_number` meets its contract: what is copied are the digits. Assumes nothing.
-use mathlib.Core.Path.{_≡_}
 use native.Mathlib.Omega.{arith}
 use borrow.Author.Needs.{needs}
 use Rattle.text.specs.Laws.{decimal-short}

@@ -1,5 +1,4 @@
 -- `files::boarded` meets its contract, the answer and the bytes. Assumes nothing.
-use mathlib.Core.Path.{_≡_, sym, ap, _∙_}
 use Rattle.hex.specs.Laws.{one-told, told-then}
 use Rattle.answers.specs.Answers.{refusal-texts}
 use Rattle.files.specs.Files.{boarded-texts}

@@ -1,5 +1,4 @@
 -- `files::fill` meets its contract, by what was read. Assumes nothing.
-use mathlib.Core.Path.{_≡_, sym, ap, _∙_}
 use borrow.Author.Tests.{not-true, not-false}
 use Rattle.asked.specs.Asked.{paged-of}
 use Rattle.answers.specs.Laws.{page-known, page-bad}

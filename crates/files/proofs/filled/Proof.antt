@@ -1,5 +1,4 @@
 -- `files::filled` meets its contract, refused or not. Assumes nothing.
-use mathlib.Core.Path.{_≡_, sym, ap, _∙_}
 use Rattle.answers.specs.Laws.{refused-told, accepted-told}
 use Rattle.files.specs.Files.{filled-texts}
 use borrow.Author.Needs.{needs}

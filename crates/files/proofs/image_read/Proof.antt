@@ -1,6 +1,5 @@
 -- `files::image_read` meets its contract, refused or not. Assumes nothing.
-use mathlib.Core.Path.{_≡_, sym, ap, _∙_}
-use Rattle.hex.specs.Laws.{one-told, told-then}
+use Rattle.hex.specs.Laws.{told-then}
 use Rattle.files.specs.Files.{reading-texts, restored-texts}
 use borrow.Author.Needs.{needs}
 use Rattle.files.proofs.image_read.Statement.{statement}

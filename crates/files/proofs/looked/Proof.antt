@@ -1,6 +1,5 @@
 -- `files::looked` meets its contract, the refusal and the part. Assumes nothing.
-use mathlib.Core.Path.{_≡_, sym, ap, _∙_}
-use Rattle.hex.specs.Laws.{one-told, told-then}
+use Rattle.hex.specs.Laws.{told-then}
 use Rattle.files.specs.Files.{looked-texts}
 use borrow.Author.Needs.{needs}
 use Rattle.files.proofs.looked.Statement.{statement}

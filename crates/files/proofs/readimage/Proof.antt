@@ -1,6 +1,6 @@
 -- `files::readimage` meets its contract, by what was read. Assumes nothing.
 use mathlib.Core.Option.{some}
-use mathlib.Core.Path.{_≡_, sym, ap, _∙_}
+use mathlib.Core.Path.{sym, ap, _∙_}
 use Rattle.fields.specs.Reading.{some-bytes, no-bytes-in}
 use Rattle.fields.specs.Fields.{bytes-in}
 use Rattle.asked.specs.Asked.{most-in-word}

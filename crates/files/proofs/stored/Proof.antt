@@ -1,5 +1,4 @@
 -- `files::stored` meets its contract, by what was written. Assumes nothing.
-use mathlib.Core.Path.{_≡_, sym, ap, _∙_}
 use Rattle.files.specs.Files.{stored-texts}
 use borrow.Author.Needs.{needs}
 use Rattle.files.proofs.stored.Statement.{statement}

@@ -1,5 +1,5 @@
 -- `files::trace_by` meets its contract, by its test. Assumes nothing.
-use mathlib.Core.Path.{_≡_, sym, ap, _∙_}
+use mathlib.Core.Path.{sym, _∙_}
 use Rattle.fields.specs.Reading.{same-told}
 use Rattle.files.specs.Files.{trace-texts, prioritised-texts}
 use borrow.Author.Needs.{needs}

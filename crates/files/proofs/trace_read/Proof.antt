@@ -1,6 +1,5 @@
 -- `files::trace_read` meets its contract, refused or not. Assumes nothing.
-use mathlib.Core.Path.{_≡_, sym, ap, _∙_}
-use Rattle.hex.specs.Laws.{one-told, told-then}
+use Rattle.hex.specs.Laws.{told-then}
 use Rattle.answers.specs.Laws.{refused-told, accepted-told}
 use Rattle.files.specs.Files.{traced-texts}
 use borrow.Author.Needs.{needs}

@@ -1,6 +1,6 @@
 -- `files::writetrace` meets its contract, by what was read. Assumes nothing.
 use mathlib.Core.Option.{some}
-use mathlib.Core.Path.{_≡_, sym, ap, _∙_}
+use mathlib.Core.Path.{sym, ap, _∙_}
 use Rattle.fields.specs.Reading.{some-numbers, no-numbers-in}
 use Rattle.fields.specs.Fields.{list-in}
 use Rattle.asked.specs.Asked.{most-in-word, number-in}

@@ -1,5 +1,4 @@
 -- `kinds::answer` meets its contract, by how many words there are. Assumes nothing.
-use mathlib.Core.Path.{_≡_}
 use borrow.Author.Tests.{eq-eqb, ne-eqb}
 use Rattle.kinds.specs.Kinds.{of-words, line-answer}
 use borrow.Author.Needs.{needs}

@@ -1,5 +1,5 @@
 -- `kinds::of_three` meets its contract, by its tests in their order. Assumes nothing.
-use mathlib.Core.Path.{_≡_, sym, _∙_}
+use mathlib.Core.Path.{sym, _∙_}
 use Rattle.fields.specs.Reading.{same-told}
 use Rattle.kinds.specs.Kinds.{three-words}
 use borrow.Author.Needs.{needs}
