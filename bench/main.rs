@@ -101,6 +101,7 @@ impl Work {
         if !last.contains(&format!("misses {misses} ")) || u32::from_le_bytes([image[16], image[17], image[18], image[19]]) != short {
             mismatch("misses of text or board", 0, kind, pages, slots);
         }
+        self.room(&text[..length]);
         for side in 1..4 {
             if REPLAY[side](&self.file) != misses {
                 mismatch("replay", side, kind, pages, slots);
@@ -118,6 +119,19 @@ impl Work {
             }
         }
         misses
+    }
+
+    /// The library's text in a buffer that it just fits, and in one a byte shorter, which stays as it was.
+    fn room(&self, text: &[u8]) {
+        let mut fitting = vec![7; text.len()];
+        let mut short = vec![7; text.len() - 1];
+        if our_text(&self.file, &mut fitting) != text.len()
+            || fitting != text
+            || our_text(&self.file, &mut short) != 0
+            || short.iter().any(|&byte| byte != 7)
+        {
+            mismatch("text in little room", 0, self.kind, self.pages, self.slots);
+        }
     }
 }
 
@@ -260,25 +274,18 @@ fn named(kind: &str, pages: &str, slots: &str) -> Work {
     Work::new(kind, pages.parse().unwrap_or(1024), slots.parse().unwrap_or(64))
 }
 
-/// One call of the library, once.
-fn ours(call: &str, work: Work) {
-    match call {
-        "replay" => drop(black_box(our_replay(&work.file))),
-        "checked" => drop(black_box(our_checked(&work.short))),
-        "text" => drop(black_box(our_text(&work.file, &mut vec![0; ROOM]))),
-        _ => drop(black_box(work.board(our_serve, &mut work.image.clone()))),
-    }
-}
-
-/// Every call once on every side, for a program that counts instructions by function.
-fn once(work: Work) {
+/// One call of one side, once; nothing of the side `none`. For a program that counts instructions.
+fn one(side: &str, call: &str, work: Work) {
     let mut out = vec![0; ROOM];
-    for side in 0..4 {
-        black_box(REPLAY[side](black_box(&work.file)));
-        black_box(CHECKED[side](black_box(&work.short)));
-        black_box(TEXT[side](black_box(&work.file), &mut out));
-        let mut image = work.image.clone();
-        black_box(work.board(SERVE[side], &mut image));
+    let mut image = work.image.clone();
+    let Some(side) = SIDES.iter().position(|name| *name == side) else {
+        return drop(black_box((work, out, image)));
+    };
+    match call {
+        "replay" => drop(black_box(REPLAY[side](black_box(&work.file)))),
+        "checked" => drop(black_box(CHECKED[side](black_box(&work.short)))),
+        "text" => drop(black_box(TEXT[side](black_box(&work.file), &mut out))),
+        _ => drop(black_box(work.board(SERVE[side], &mut image))),
     }
 }
 
@@ -292,10 +299,9 @@ fn main() {
         }
         ["kinds"] => kinds(),
         ["grow"] => grow(),
-        ["once", kind, pages, slots] => once(named(kind, pages, slots)),
-        ["ours", call, kind, pages, slots] => ours(call, named(kind, pages, slots)),
+        [side, call, kind, pages, slots] => one(side, call, named(kind, pages, slots)),
         _ => {
-            eprintln!("usage: bench [kinds | grow | once KIND N K | ours CALL KIND N K]");
+            eprintln!("usage: bench [kinds | grow | SIDE CALL KIND N K]");
             exit(2);
         }
     }
