@@ -1,6 +1,6 @@
 //! Rust with our algorithm: what the crates do, with the same tables and the same passes, in safe Rust. By slots it keeps the
 //! layer and the key of the page in each, so that the searches of a miss go over two short arrays without jumps; the layers
-//! sink in one pass without jumps; soundness is tested in flat passes and by the certificate, in O(N + k²). The run is changed
+//! sink in one pass without jumps; soundness is tested in flat passes and by the certificate, in O(N + k). The run is changed
 //! in place. A replay keeps the layers and keys of the slots from request to request, and so does the text of a trace; the
 //! checked request and the board entry compute them from the tables.
 

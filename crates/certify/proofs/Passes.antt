@@ -1,38 +1,17 @@
 -- Tests that a loop or a row of early exits makes one by one: what holds after each, and what one that fails says. Assumes nothing.
 use mathlib.Core.Bool.{Bool, true, false, not, _&&_, _||_}
 use mathlib.Core.List.{List}
-use mathlib.Core.Path.{_≡_, refl, sym, _∙_}
-use Prim.Native.Nat.{ℕ, _+_, _≤_, _<_}
+use mathlib.Core.Path.{_≡_, sym, _∙_}
+use Prim.Native.Nat.{ℕ, _+_, _≤_}
 use native.Mathlib.Numerals.{add-one}
 use native.Mathlib.Omega.{arith}
 use lib.Dec.{eqb, leb, ltb}
 use lib.ListN.{getD}
 use borrow.Author.Tests.{not-true, not-false}
 use Rattle.paging.specs.Sets.{each}
-use Rattle.paging.specs.Tests.{clash, isnt, and-in}
-use Rattle.paging.specs.Words.{each-true}
 use Rattle.ranking.specs.Key.{key-of}
 
--- ---- each number below i has passed
-
-pub record Passed (f : ℕ → Bool) (i : ℕ) : Type 0 where
-  pub all : each i f ≡ true
-
-pub passed-none : (f : ℕ → Bool) → Passed f 0
-unfolding each
-passed-none f = record { all = refl }
-
-pub passed-more : {f : ℕ → Bool} {i : ℕ} → Passed f i → f i ≡ true → Passed f (i + 1)
-unfolding each
-passed-more {f} {i} p e = record { all = rw (add-one i) (and-in (each i f) (f i) (p .all) e) }
-
-pub passed-all : {f : ℕ → Bool} {i n : ℕ} → Passed f i → i ≤ n → n ≤ i → true ≡ each n f
-passed-all {f} {i} {n} p a b = let e : n ≡ i = omega arith in rw e (sym (p .all))
-
-pub failed : (f : ℕ → Bool) (i n : ℕ) → i < n → f i ≡ false → false ≡ each n f
-failed f i n l e = sym (isnt (each n f) (λ t. clash (each-true n f t i l) e))
-
--- the same where the loop keeps the answer and goes on
+-- ---- a loop keeps the answer for each number below i, and goes on
 
 pub each-more : (f : ℕ → Bool) (i : ℕ) (a r : Bool) → a ≡ each i f → r ≡ a && f i → r ≡ each (i + 1) f
 unfolding each

@@ -96,7 +96,7 @@ fn both(first: bool, second: bool) -> bool
 }
 
 // No page outside the slots has a key that reaches the bar of its layer; layer 0 has no bar. Every page is looked at:
-// a pass without a way out takes less time, and a sound run has none.
+// a sound run has no late one, and on Arm a pass without a way out takes less time.
 fn none_late<'a>(
     layer: &'a [u8; 1024],
     priority: &'a [u16; 1024],
