@@ -9,7 +9,7 @@ use lib.Dec.{eqb, leb, ltb}
 use lib.ListN.{getD}
 use borrow.Author.Tests.{not-true, not-false}
 use Rattle.paging.specs.Sets.{each}
-use Rattle.ranking.specs.Key.{key-of}
+use Rattle.ranking.specs.Key.{key-at}
 
 -- ---- a loop keeps the answer for each number below i, and goes on
 
@@ -26,15 +26,8 @@ roomy counts j = leb (getD counts j 0) j
 
 -- what `none_late` tests of a page
 abbrev pub timely : List Bool → List ℕ → List ℕ → List ℕ → ℕ → Bool
-timely marks layer priority bars q =
-    getD marks q false || eqb (getD layer q 0) 0 || ltb (key-of (getD priority q 0) q) (getD bars (getD layer q 0) 0)
-
-pub timely-is :
-    (marks : List Bool) (layer priority bars : List ℕ) (q key : ℕ) (r : Bool) →
-    key ≡ key-of (getD priority q 0) q →
-    r ≡ (getD marks q false || eqb (getD layer q 0) 0 || ltb key (getD bars (getD layer q 0) 0)) →
-    timely marks layer priority bars q ≡ r
-timely-is marks layer priority bars q key r ek er = sym (rw ek at er)
+timely marks layer keys bars q =
+    getD marks q false || eqb (getD layer q 0) 0 || ltb (key-at keys q) (getD bars (getD layer q 0) 0)
 
 -- ---- parts of a test, made one by one
 

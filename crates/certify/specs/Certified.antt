@@ -18,18 +18,17 @@ use Rattle.paging.specs.Words.{each-true, each-in, first-none, first-some}
 use Rattle.paging.specs.Certificate.{upto, upto-in, Witness, Justified}
 use Rattle.paging.specs.Update.{held-top}
 use Rattle.paging.specs.Theorems.{selection-justified}
-use Rattle.ranking.specs.Outranks.{outranks}
-use Rattle.ranking.specs.Order.{outranks-ranking}
-use Rattle.ranking.specs.Key.{key-of}
 use Rattle.slots.specs.Slots.{no-page, seated, near-of, keys-of, near-to}
-use Rattle.slots.specs.Laws.{near-at, seated-in, seated-was, least-le}
-use Rattle.slots.specs.Held.{Seats, near-held, seated-count, keys-at-slot, least-slot, key-outranks, near-some}
+use Rattle.slots.specs.Laws.{near-at, keys-at, seated-in, seated-was, least-le}
+use Rattle.slots.specs.Held.{Seats, near-held, seated-count, least-slot, near-some}
 use Rattle.certify.specs.Test.{room, far, bar-key, none-late}
 
 module _
     (N k : ℕ)
-    (layer priority held : List ℕ)
-    (w : Seats N k priority held)
+    (o : ℕ → ℕ → Bool)
+    (key : ℕ → ℕ)
+    (layer held : List ℕ)
+    (w : Seats N k o key held)
     (k-pos : 0 < k)
     (lay : Layered N k 0 (λ q. getD layer q 0))
   where
@@ -39,24 +38,18 @@ module _
     abbrev M : Pages
     M = seated held k
 
-    abbrev o : ℕ → ℕ → Bool
-    o = outranks (λ q. getD priority q 0)
-
     abbrev near : List ℕ
     near = near-of layer held k
 
     abbrev keys : List ℕ
-    keys = keys-of priority held k
-
-    abbrev key : ℕ → ℕ
-    key q = key-of (getD priority q 0) q
+    keys = keys-of key held k
 
     count-near : (j : ℕ) → near-to near k j ≡ count (upto L M j) N
-    count-near = near-held N k layer priority held w
+    count-near = near-held N k o key layer held w
 
     -- all cached pages are in layers up to k, and they are k
     full-top : near-to near k k ≡ k
-    full-top = count-near k ∙ (held-top N k L M (lay .bounded) ∙ seated-count N k layer priority held w)
+    full-top = count-near k ∙ (held-top N k L M (lay .bounded) ∙ seated-count N k o key layer held w)
 
     -- the first full layer from i on
     far-is : (i : ℕ) → i ≤ k → (i ≤ far near k i) × (far near k i ≤ k) × (near-to near k (far near k i) ≡ far near k i) × ((j : ℕ) → i ≤ j → j ≤ k → near-to near k j ≡ j → far near k i ≤ j)
@@ -81,12 +74,9 @@ module _
               λ j a b e. ⊎-elim (λ l. l) (λ l. absurd (clash (test-in j a e) (f .none-before j l))) (le-or-lt J j),
             )
 
-    small : (q : ℕ) → q < N → q ≤ 65535
-    small q l = omega (arith, w .pages)
-
     -- ---- from the test to the certificate
 
-    module _ (fits : room near k ≡ true) (late : none-late N k layer priority M near keys ≡ true) where
+    module _ (fits : room near k ≡ true) (late : none-late N k layer key M near keys ≡ true) where
       fits-at : (j : ℕ) → j ≤ k → count (upto L M j) N ≤ j
       unfolding room
       fits-at j h =
@@ -116,8 +106,8 @@ module _
             outranked = λ r lr m h.
                 let (s, ls, at) = seated-was held k r m in
                 let hs : getD near s 0 ≤ far near k (L q) = omega (arith, near-at layer held k s ls, ap L at) in
-                let ks = keys-at-slot N k layer priority held w s ls in
-                key-outranks N k layer priority held w r q (small r lr) (small q l)
+                let ks = keys-at key held k s ls in
+                w .keyed .order r q lr l
                 .0
                 (omega (arith, low-key q l out pos, least-le near keys (far near k (L q)) k s ls hs, ks, ap key at));
           }
@@ -125,7 +115,7 @@ module _
       pub test-justified : Justified N k L o M
       test-justified =
           record {
-            size = seated-count N k layer priority held w;
+            size = seated-count N k o key layer held w;
             fits = fits-at;
             why = λ q l out. ⊎-elim (λ pos. (far near k (L q), witness q l out pos)) (λ z. (0, bottom q z)) (le-or-lt 1 (L q));
           }
@@ -162,16 +152,16 @@ module _
           let near-j : near-to near k j ≡ j = count-near j ∙ wit .tight in
           let J≤j = first j (wit .covers) (wit .within) near-j in
           let (s, ls, hs) = near-some near k (far near k (L q)) (omega arith) in
-          let (t, lt, ht, page, least) = least-slot N k layer priority held w (far near k (L q)) s ls hs in
+          let (t, lt, ht, page, least) = least-slot N k o key layer held w (far near k (L q)) s ls hs in
           let tN = w .holds t lt in
           let in-j : L (getD held t no-page) ≤ j = omega (arith, near-at layer held k t lt) in
           let top = wit .outranked (getD held t no-page) tN (seated-slot t lt) in-j in
-          omega (arith, least, key-outranks N k layer priority held w (getD held t no-page) q (small (getD held t no-page) tN) (small q l) .1 top)
+          omega (arith, least, w .keyed .order (getD held t no-page) q tN l .1 top)
         where
           seated-slot : (t : ℕ) → t < k → M (getD held t no-page) ≡ true
           seated-slot t lt = seated-in held k (getD held t no-page) t lt refl
 
-      pub just-late : none-late N k layer priority M near keys ≡ true
+      pub just-late : none-late N k layer key M near keys ≡ true
       unfolding none-late
       just-late = each-in N (λ q. M q || eqb (L q) 0 || ltb (key q) (bar-key near keys k (L q))) one
         where
@@ -188,11 +178,11 @@ module _
 
     -- the cached set is the selection exactly where the test finds room and no page too late
     pub certified :
-        Same N (chosen N o L k) M ↔ ((room near k ≡ true) × (none-late N k layer priority M near keys ≡ true))
+        Same N (chosen N o L k) M ↔ ((room near k ≡ true) × (none-late N k layer key M near keys ≡ true))
     certified = (
       λ same. let just = both .0 same in (just-room just, just-late just),
       λ tests. both .1 (test-justified (tests .0) (tests .1)),
     )
       where
         both : Same N (chosen N o L k) M ↔ Justified N k L o M
-        both = selection-justified N k o L (outranks-ranking N (λ q. getD priority q 0)) lay M
+        both = selection-justified N k o L (w .keyed .ranking) lay M

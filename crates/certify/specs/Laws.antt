@@ -14,11 +14,11 @@ use Rattle.paging.specs.Layers.{in-layer, Layered}
 use Rattle.paging.specs.Selection.{chosen}
 use Rattle.paging.specs.Tests.{same-test, and-in, and-left, and-right, implies-true, implies-in, beq-true, beq-in, before}
 use Rattle.paging.specs.Words.{each-true, each-in, any-true, any-in, only-true, only-in}
-use Rattle.ranking.specs.Outranks.{outranks}
+use Rattle.ranking.specs.Key.{Keyed}
 use Rattle.slots.specs.Slots.{no-page, seated, near-of, keys-of}
 use Rattle.slots.specs.Laws.{Below, Different}
 use Rattle.slots.specs.Held.{Seats}
-use Rattle.certify.specs.Test.{Narrow, room, none-late, certificate, layers-fit, ends-clear}
+use Rattle.certify.specs.Test.{room, none-late, certificate, layers-fit, ends-clear}
 use Rattle.certify.specs.Tables.{seats-fit, tables-sound}
 use Rattle.certify.specs.Certified.{certified}
 
@@ -124,18 +124,17 @@ module _ (N k : ℕ) (layer : List ℕ) where
 
 -- ---- all clauses
 
-module _ (N k : ℕ) (layer priority held : List ℕ) where
+module _ (N k : ℕ) (o : ℕ → ℕ → Bool) (layer held : List ℕ) where
   abbrev selection : Pages
-  selection = chosen N (outranks (λ q. getD priority q 0)) (λ q. getD layer q 0) k
+  selection = chosen N o (λ q. getD layer q 0) k
 
   -- Document 01's clauses on the tables.
   pub record Clauses : Type 0 where
     pub layered : Layered N k 0 (λ q. getD layer q 0)
     pub below : Below held k N
     pub differ : Different held k
-    pub selected : Same N (chosen N (outranks (λ q. getD priority q 0)) (λ q. getD layer q 0) k) (seated held k)
+    pub selected : Same N (chosen N o (λ q. getD layer q 0) k) (seated held k)
     pub no-layer : (q : ℕ) → N ≤ q → getD layer q 0 ≡ 0
-    pub no-priority : (q : ℕ) → N ≤ q → getD priority q 0 ≡ 0
     pub no-seat : (s : ℕ) → k ≤ s → getD held s no-page ≡ no-page
 
   -- The parts of the test that the code makes. It makes another one for the selection.
@@ -143,7 +142,7 @@ module _ (N k : ℕ) (layer priority held : List ℕ) where
     pub layers : layers-fit N k layer ≡ true
     pub seats : seats-fit N k held ≡ true
     pub selected : Same N selection (seated held k)
-    pub ends : ends-clear N k layer priority held ≡ true
+    pub ends : ends-clear N k layer held ≡ true
 
   abbrev same : Pages
   same q = Bool·beq (seated held k q) (selection q)
@@ -161,57 +160,44 @@ module _ (N k : ℕ) (layer priority held : List ℕ) where
   abbrev X : Bool
   X = only 0 (drop N layer)
 
-  abbrev Y : Bool
-  Y = only 0 (drop N priority)
-
   abbrev Z : Bool
   Z = only no-page (drop k held)
 
-  pub sound-parts : tables-sound N k layer priority held ≡ true → Parts
+  pub sound-parts : tables-sound N k o layer held ≡ true → Parts
   unfolding tables-sound layers-fit ends-clear
   sound-parts e =
-      let to-Y = and-left (F && S && C && X && Y) Z e in
-      let to-X = and-left (F && S && C && X) Y to-Y in
+      let to-X = and-left (F && S && C && X) Z e in
       let to-C = and-left (F && S && C) X to-X in
       let to-S = and-left (F && S) C to-C in
       record {
         layers = and-left F S to-S;
         seats = and-right F S to-S;
         selected = λ q l. sym (beq-true (seated held k q) (selection q) (each-true N same (and-right (F && S) C to-C) q l));
-        ends =
-            and-in
-            (X && Y)
-            Z
-            (and-in X Y (and-right (F && S && C) X to-X) (and-right (F && S && C && X) Y to-Y))
-            (and-right (F && S && C && X && Y) Z e);
+        ends = and-in X Z (and-right (F && S && C) X to-X) (and-right (F && S && C && X) Z e);
       }
 
-  pub parts-sound : Parts → tables-sound N k layer priority held ≡ true
+  pub parts-sound : Parts → tables-sound N k o layer held ≡ true
   unfolding tables-sound layers-fit ends-clear
   parts-sound w =
-      let xy = and-left (X && Y) Z (w .ends) in
       let c = each-in N same (λ q l. beq-in (seated held k q) (selection q) (sym (w .selected q l))) in
       let to-C = and-in (F && S) C (and-in F S (w .layers) (w .seats)) c in
-      let to-X = and-in (F && S && C) X to-C (and-left X Y xy) in
-      let to-Y = and-in (F && S && C && X) Y to-X (and-right X Y xy) in
-      and-in (F && S && C && X && Y) Z to-Y (and-right (X && Y) Z (w .ends))
+      let to-X = and-in (F && S && C) X to-C (and-left X Z (w .ends)) in
+      and-in (F && S && C && X) Z to-X (and-right X Z (w .ends))
 
-  pub sound-clauses : tables-sound N k layer priority held ≡ true → Clauses
+  pub sound-clauses : tables-sound N k o layer held ≡ true → Clauses
   unfolding ends-clear
   sound-clauses e =
       let p = sound-parts e in
-      let xy = and-left (X && Y) Z (p .ends) in
       record {
         layered = layers-layered N k layer (p .layers);
         below = seats-below N k held (p .seats);
         differ = seats-differ N k held (p .seats);
         selected = p .selected;
-        no-layer = only-true 0 N layer (and-left X Y xy);
-        no-priority = only-true 0 N priority (and-right X Y xy);
-        no-seat = only-true no-page k held (and-right (X && Y) Z (p .ends));
+        no-layer = only-true 0 N layer (and-left X Z (p .ends));
+        no-seat = only-true no-page k held (and-right X Z (p .ends));
       }
 
-  pub clauses-sound : 0 < k → Clauses → tables-sound N k layer priority held ≡ true
+  pub clauses-sound : 0 < k → Clauses → tables-sound N k o layer held ≡ true
   unfolding ends-clear
   clauses-sound pos w =
       parts-sound
@@ -219,42 +205,37 @@ module _ (N k : ℕ) (layer priority held : List ℕ) where
         layers = layers-in N k layer pos (w .layered);
         seats = seats-in N k held (w .below) (w .differ);
         selected = w .selected;
-        ends =
-            and-in
-            (X && Y)
-            Z
-            (and-in X Y (only-in 0 N layer (w .no-layer)) (only-in 0 N priority (w .no-priority)))
-            (only-in no-page k held (w .no-seat));
+        ends = and-in X Z (only-in 0 N layer (w .no-layer)) (only-in no-page k held (w .no-seat));
       })
 
   -- where the other parts hold, the certificate is all that is left to test
   pub certificate-sound :
-      N ≤ 1024 →
+      (key : ℕ → ℕ) →
       k ≤ 64 →
       0 < k →
-      Narrow priority →
+      Keyed N o key →
       layers-fit N k layer ≡ true →
       seats-fit N k held ≡ true →
-      ends-clear N k layer priority held ≡ true →
-      certificate N k layer priority held ≡ tables-sound N k layer priority held
+      ends-clear N k layer held ≡ true →
+      certificate N k layer key held ≡ tables-sound N k o layer held
   unfolding certificate
-  certificate-sound pages slots pos small fit seats ends =
-      same-test (T && R) (tables-sound N k layer priority held) there back
+  certificate-sound key slots pos keyed fit seats ends =
+      same-test (T && R) (tables-sound N k o layer held) there back
     where
       R : Bool
       R = room (near-of layer held k) k
 
       T : Bool
-      T = none-late N k layer priority (seated held k) (near-of layer held k) (keys-of priority held k)
+      T = none-late N k layer key (seated held k) (near-of layer held k) (keys-of key held k)
 
-      w : Seats N k priority held
-      w = record { pages = pages; slots = slots; holds = seats-below N k held seats; one = seats-differ N k held seats; small = small }
+      w : Seats N k o key held
+      w = record { slots = slots; holds = seats-below N k held seats; one = seats-differ N k held seats; keyed = keyed }
 
       both : Same N selection (seated held k) ↔ ((R ≡ true) × (T ≡ true))
-      both = certified N k layer priority held w pos (layers-layered N k layer fit)
+      both = certified N k o key layer held w pos (layers-layered N k layer fit)
 
-      there : T && R ≡ true → tables-sound N k layer priority held ≡ true
+      there : T && R ≡ true → tables-sound N k o layer held ≡ true
       there e = parts-sound (record { layers = fit; seats = seats; selected = both .1 (and-right T R e, and-left T R e); ends = ends })
 
-      back : tables-sound N k layer priority held ≡ true → T && R ≡ true
+      back : tables-sound N k o layer held ≡ true → T && R ≡ true
       back e = let t = both .0 (sound-parts e .selected) in and-in T R (t .1) (t .0)

@@ -1,4 +1,5 @@
--- Document 01, 'A sound run': the clauses that speak of the tables of layers, priorities and slots, as one test. Assumes nothing.
+-- Document 01, 'A sound run': the clauses that speak of the tables of layers and slots, as one test. `o` is the run's ranking.
+-- Assumes nothing.
 use mathlib.Core.Bool.{Bool, _&&_, Bool·beq}
 use mathlib.Core.List.{List}
 use Prim.Native.Nat.{ℕ, suc}
@@ -6,7 +7,6 @@ use lib.ListN.{getD, drop}
 use Rattle.paging.specs.Sets.{_=?_, _<?_, _≤?_, _⇒_, count, each, any, only}
 use Rattle.paging.specs.Layers.{in-layer}
 use Rattle.paging.specs.Selection.{chosen}
-use Rattle.ranking.specs.Outranks.{outranks}
 use Rattle.slots.specs.Slots.{no-page, seated}
 
 -- Each slot holds one cached page, and each cached page one slot.
@@ -15,8 +15,8 @@ seats-fit N k held =
     each k (λ s. getD held s no-page <? N)
     && each k (λ s. each k (λ t. getD held s no-page =? getD held t no-page ⇒ s =? t))
 
-unfoldable pub tables-sound : ℕ → ℕ → List ℕ → List ℕ → List ℕ → Bool
-tables-sound N k layer priority held =
+unfoldable pub tables-sound : ℕ → ℕ → (ℕ → ℕ → Bool) → List ℕ → List ℕ → Bool
+tables-sound N k o layer held =
     -- each page below N in a layer 0 to k;
     each N (λ q. getD layer q 0 ≤? k)
     -- every layer 1 to k holds a page
@@ -26,8 +26,7 @@ tables-sound N k layer priority held =
     -- each slot holds one cached page and each cached page one slot;
     && seats-fit N k held
     -- the cached set equals the selection.
-    && each N (λ q. Bool·beq (seated held k q) (chosen N (outranks (λ q. getD priority q 0)) (λ q. getD layer q 0) k q))
-    -- Entries at N and above: layer 0, priority 0. Slots at k and above hold no page.
+    && each N (λ q. Bool·beq (seated held k q) (chosen N o (λ q. getD layer q 0) k q))
+    -- Entries at N and above: layer 0. Slots at k and above hold no page.
     && only 0 (drop N layer)
-    && only 0 (drop N priority)
     && only no-page (drop k held)

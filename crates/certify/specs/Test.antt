@@ -3,11 +3,10 @@
 use mathlib.Core.Bool.{Bool, _&&_, _||_}
 use mathlib.Core.List.{List}
 use mathlib.Core.Option.{Option·getD}
-use Prim.Native.Nat.{ℕ, suc, _≤_}
+use Prim.Native.Nat.{ℕ, suc}
 use lib.ListN.{getD, drop}
 use Rattle.paging.specs.Sets.{_=?_, _<?_, _≤?_, Pages, count, each, any, first, only}
 use Rattle.paging.specs.Layers.{in-layer}
-use Rattle.ranking.specs.Key.{key-of}
 use Rattle.slots.specs.Slots.{no-page, seated, near-of, keys-of, near-to, least-key}
 
 -- For each j, the slots hold at most j pages of layers up to j.
@@ -22,18 +21,13 @@ far near k i = Option·getD (first (suc k) (λ j. i ≤? j && near-to near k j =
 unfoldable pub bar-key : List ℕ → List ℕ → ℕ → ℕ → ℕ
 bar-key near keys k i = least-key near keys (far near k i) k
 
-unfoldable pub none-late : ℕ → ℕ → List ℕ → List ℕ → Pages → List ℕ → List ℕ → Bool
-none-late N k layer priority M near keys =
-    each N (λ q. M q || getD layer q 0 =? 0 || key-of (getD priority q 0) q <? bar-key near keys k (getD layer q 0))
+unfoldable pub none-late : ℕ → ℕ → List ℕ → (ℕ → ℕ) → Pages → List ℕ → List ℕ → Bool
+none-late N k layer key M near keys = each N (λ q. M q || getD layer q 0 =? 0 || key q <? bar-key near keys k (getD layer q 0))
 
--- Each priority is a number of 16 bits, as it is in the code.
-abbrev pub Narrow : List ℕ → Type 0
-Narrow priority = (q : ℕ) → getD priority q 0 ≤ 65535
-
--- The certificate, of the tables by slots.
-unfoldable pub certificate : ℕ → ℕ → List ℕ → List ℕ → List ℕ → Bool
-certificate N k layer priority held =
-    none-late N k layer priority (seated held k) (near-of layer held k) (keys-of priority held k)
+-- The certificate, of the tables by slots. `key q` is the key of page q.
+unfoldable pub certificate : ℕ → ℕ → List ℕ → (ℕ → ℕ) → List ℕ → Bool
+certificate N k layer key held =
+    none-late N k layer key (seated held k) (near-of layer held k) (keys-of key held k)
     && room (near-of layer held k) k
 
 -- The test's other parts: document 01's clauses on the layers, and on the entries that no page and no slot has.
@@ -43,5 +37,5 @@ layers-fit N k layer =
     && each k (λ j. any N (in-layer (λ q. getD layer q 0) (suc j)))
     && count (in-layer (λ q. getD layer q 0) k) N =? 1
 
-unfoldable pub ends-clear : ℕ → ℕ → List ℕ → List ℕ → List ℕ → Bool
-ends-clear N k layer priority held = only 0 (drop N layer) && only 0 (drop N priority) && only no-page (drop k held)
+unfoldable pub ends-clear : ℕ → ℕ → List ℕ → List ℕ → Bool
+ends-clear N k layer held = only 0 (drop N layer) && only no-page (drop k held)

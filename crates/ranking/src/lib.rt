@@ -1,9 +1,14 @@
-// The ranking of the pages: which of two outranks the other, one number that orders pages so, and the default priorities.
+// The ranking of the pages: the default priorities, and one number for each page that orders the pages as the ranking does.
 // Assumes nothing.
 ghost use mathlib.Core.Path.{_≡_};
-ghost use Rattle.ranking.specs.Outranks.{above};
-ghost use Rattle.ranking.specs.Key.{key-of};
+ghost use Prim.Native.Nat.{_<_};
+ghost use Rattle.ranking.specs.Key.{key-of, page-of, page-keys, Narrow};
 ghost use Rattle.ranking.specs.Defaults.{default-priority};
+
+// How wide a key is stands here alone, with the number that no key reaches.
+pub type Key = u32;
+
+pub const NO_KEY: Key = 4294967295;
 
 // Entry i is (389 * i + 71) % 1024.
 const DEFAULTS: [u16; 1024] = [
@@ -1040,22 +1045,33 @@ pub fn default_priority(page: usize) -> u16
     DEFAULTS[page % 1024]
 }
 
-// Whether page a, of priority x, outranks page b, of priority y.
-pub fn outranks(x: u16, a: u16, y: u16, b: u16) -> bool
-    ensures { λ r. ⌜ r ≡ above x a y b ⌝ }
-{
-    if y < x {
-        return true;
-    }
-    if x < y {
-        return false;
-    }
-    a < b
-}
-
 // A number that is the greater, the higher a page ranks.
-pub fn key(priority: u16, page: u16) -> u32
+pub fn key(priority: u16, page: u16) -> Key
+    requires { ⌜ page < 1024 ⌝ }
     ensures { λ r. ⌜ r ≡ key-of priority page ⌝ }
 {
-    priority as u32 * 65536 + (65535 - page as u32)
+    priority as Key * 1024 + (1023 - page as Key)
+}
+
+// The page of a key.
+pub fn page_of(key: Key) -> u16
+    ensures { λ r. ⌜ r ≡ page-of key ⌝ }
+{
+    (1023 - key % 1024) as u16
+}
+
+// The key of each page, and that the priorities are as narrow as the keys ask: the reads tell it.
+pub fn keys(priority: &[u16; 1024]) -> [Key; 1024]
+    ensures table { λ r. ⌜ r ≡ page-keys (now (priority .entry)) ⌝ }
+    ensures narrow { λ _. ⌜ Narrow (now (priority .entry)) ⌝ }
+{
+    // A slice knows that its entries are 16 bits wide.
+    let numbers: &[u16] = priority;
+    let mut keys: [Key; 1024] = [0; 1024];
+    let mut q = 0;
+    while q < 1024 {
+        keys[q] = key(numbers[q], q as u16);
+        q += 1;
+    }
+    keys
 }

@@ -1,12 +1,12 @@
 -- Laws for callers: what is read out of marks, and that marks and the words of the selection depend on a set only below N.
 -- Assumes nothing.
 use mathlib.Core.Bool.{Bool, false, _&&_}
-use mathlib.Core.Path.{_≡_}
-use Prim.Native.Nat.{ℕ, _-_, _≤_, _<_}
+use mathlib.Core.Path.{_≡_, refl}
+use Prim.Native.Nat.{ℕ, zero, suc, _≤_, _<_}
 use lib.ListN.{length, getD, replicate}
 use Rattle.paging.specs.Sets.{Pages, Same, count}
 use Rattle.paging.specs.Count.{same-count}
-use Rattle.paging.specs.Selection.{highest, together}
+use Rattle.paging.specs.Selection.{highest, together, chosen}
 use Rattle.paging.specs.Tables.{table-length, table-at, table-past, table-same, table-only}
 use Rattle.selection.specs.Marks.{marks}
 
@@ -47,3 +47,18 @@ module _ (N : ℕ) (X Y : Pages) (same : Same N X Y) where
       let e : count (λ r. X r && o r q) N ≡ count (λ r. Y r && o r q) N =
       same-count (λ r. X r && o r q) (λ r. Y r && o r q) N (λ r lr. rw (same r lr)) in
       rw (same q l, e)
+
+-- the selection looks at the ranking only below N
+pub chosen-ranked :
+    (N : ℕ) (o o′ : ℕ → ℕ → Bool) (L : ℕ → ℕ) →
+    ((a b : ℕ) → a < N → b < N → o a b ≡ o′ a b) →
+    (k : ℕ) →
+    Same N (chosen N o L k) (chosen N o′ L k)
+unfolding chosen highest
+chosen-ranked N o o′ L same zero q l = refl
+chosen-ranked N o o′ L same (suc k) q l =
+    let before = chosen-ranked N o o′ L same k in
+    let sets = together-same N (chosen N o L k) (chosen N o′ L k) before L (suc k) in
+    let e : count (λ r. together L (suc k) (chosen N o L k) r && o r q) N ≡ count (λ r. together L (suc k) (chosen N o′ L k) r && o′ r q) N =
+    same-count (λ r. together L (suc k) (chosen N o L k) r && o r q) (λ r. together L (suc k) (chosen N o′ L k) r && o′ r q) N (λ r lr. rw (sets r lr, same r q lr l)) in
+    rw (sets q l, e)

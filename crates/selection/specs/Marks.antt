@@ -4,7 +4,6 @@ use mathlib.Core.List.{List}
 use Prim.Native.Nat.{ℕ}
 use lib.ListN.{getD}
 use Rattle.paging.specs.Sets.{Pages, table}
-use Rattle.ranking.specs.Outranks.{outranks}
 
 -- The marks of the pages below N that are in S.
 unfoldable pub marks : ℕ → Pages → List Bool
@@ -14,9 +13,6 @@ marks N S = table 1024 N false S
 abbrev pub marked : List Bool → Pages
 marked m q = getD m q false
 
--- The ranking by a list of priorities, and the layers of a layer table.
-abbrev pub by : List ℕ → ℕ → ℕ → Bool
-by priority = outranks (λ q. getD priority q 0)
-
+-- The layers of a layer table.
 abbrev pub layers : List ℕ → ℕ → ℕ
 layers layer q = getD layer q 0

@@ -1,11 +1,13 @@
-// The plain selection, set after set, over a copied layer table: arrays go in by value, and a new array of marks comes back.
-// Assumes nothing.
+// The plain selection, set after set, over a copied layer table and the key of each page: arrays go in by value, and a new array of
+// marks comes back. Assumes nothing.
 ghost use mathlib.Core.Bool.{_&&_};
 ghost use mathlib.Core.Path.{_≡_};
 ghost use Prim.Native.Nat.{_<_, _≤_};
 ghost use Rattle.paging.specs.Sets.{count};
 ghost use Rattle.paging.specs.Selection.{highest, together, chosen};
-ghost use Rattle.selection.specs.Marks.{marks, marked, by, layers};
+ghost use Rattle.ranking.specs.Key.{by-key, key-at};
+ghost use Rattle.selection.specs.Marks.{marks, marked, layers};
+use ranking::Key;
 
 // C_(j-1) and L_j together.
 fn joined(layer: [u8; 1024], set: [bool; 1024], pages: usize, j: u8) -> [bool; 1024]
@@ -26,15 +28,15 @@ fn joined(layer: [u8; 1024], set: [bool; 1024], pages: usize, j: u8) -> [bool; 1
 }
 
 // How many pages of a set outrank page q.
-fn above_of(priority: &[u16; 1024], set: &[bool; 1024], pages: usize, q: usize) -> usize
+fn above_of(keys: &[Key; 1024], set: &[bool; 1024], pages: usize, q: usize) -> usize
     requires { ⌜ (pages ≤ 1024) × (q < 1024) ⌝ }
-    ensures { λ n. ⌜ n ≡ count (λ r. marked (now (set .entry)) r && by (now (priority .entry)) r q) pages ⌝ }
+    ensures { λ n. ⌜ n ≡ count (λ r. marked (now (set .entry)) r && by-key (key-at (now (keys .entry))) r q) pages ⌝ }
 {
     let mut n = 0;
     let mut r = 0;
     while r < pages {
         if set[r] {
-            if ranking::outranks(priority[r], r as u16, priority[q], q as u16) {
+            if keys[q] < keys[r] {
                 n += 1;
             }
         }
@@ -44,15 +46,15 @@ fn above_of(priority: &[u16; 1024], set: &[bool; 1024], pages: usize, q: usize) 
 }
 
 // The j highest-ranking pages of a set.
-fn kept(priority: [u16; 1024], set: [bool; 1024], pages: usize, j: usize) -> [bool; 1024]
+fn kept(keys: [Key; 1024], set: [bool; 1024], pages: usize, j: usize) -> [bool; 1024]
     requires { ⌜ pages ≤ 1024 ⌝ }
-    ensures { λ r. ⌜ r ≡ marks pages (highest pages (by priority) (marked set) j) ⌝ }
+    ensures { λ r. ⌜ r ≡ marks pages (highest pages (by-key (key-at keys)) (marked set) j) ⌝ }
 {
     let mut out = [false; 1024];
     let mut q = 0;
     while q < pages {
         if set[q] {
-            out[q] = above_of(&priority, &set, pages, q) < j;
+            out[q] = above_of(&keys, &set, pages, q) < j;
         }
         q += 1;
     }
@@ -62,18 +64,18 @@ fn kept(priority: [u16; 1024], set: [bool; 1024], pages: usize, j: usize) -> [bo
 // The selection: C_1 to C_k, one after the other.
 pub fn selected(
     layer: [u8; 1024],
-    priority: [u16; 1024],
+    keys: [Key; 1024],
     pages: usize,
     slots: usize,
 ) -> [bool; 1024]
     requires { ⌜ (pages ≤ 1024) × (slots ≤ 64) ⌝ }
-    ensures { λ r. ⌜ r ≡ marks pages (chosen pages (by priority) (layers layer) slots) ⌝ }
+    ensures { λ r. ⌜ r ≡ marks pages (chosen pages (by-key (key-at keys)) (layers layer) slots) ⌝ }
 {
     let mut set = [false; 1024];
     let mut j: usize = 0;
     while j < slots {
         j += 1;
-        set = kept(priority, joined(layer, set, pages, j as u8), pages, j);
+        set = kept(keys, joined(layer, set, pages, j as u8), pages, j);
     }
     set
 }

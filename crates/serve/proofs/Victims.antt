@@ -3,12 +3,13 @@ use mathlib.Core.Bool.{Bool, true, false, cond, _&&_}
 use mathlib.Core.List.{List}
 use mathlib.Core.Option.{Option, none, some, Option·some-injective}
 use mathlib.Core.Path.{Path, _≡_, refl, ap, _∙_}
-use Prim.Native.Nat.{ℕ, suc, _-_, _%_, _≤_}
+use Prim.Native.Nat.{ℕ, suc, _%_, _≤_}
 use native.Mathlib.Nat.{mod-eq-of-lt}
 use native.Mathlib.Omega.{arith}
 use lib.Dec.{eqb, leb}
 use Rattle.paging.specs.Sets.{first}
 use Rattle.paging.specs.Words.{first-some}
+use Rattle.ranking.specs.Key.{page-of}
 use Rattle.slots.specs.declared.Found.the-variants.{At, Nowhere}
 use Rattle.slots.specs.Slots.{found, near-to, least-key}
 use Rattle.serve.specs.Step.{least-page, search-to}
@@ -39,7 +40,7 @@ pub page-found :
     j ≤ k →
     k ≤ 64 →
     key ≡ least-key near keys (j % 256) k →
-    page ≡ 65535 - key % 65536 →
+    page ≡ page-of key →
     At page ≡ found (least-page near keys k x)
 unfolding least-page
 page-found near keys k j key page x e le small ek ep =
@@ -47,7 +48,7 @@ page-found near keys k j key page x e le small ek ep =
     (ap
     At
     (ep
-    ∙ ap (λ (n : ℕ). 65535 - n % 65536) (ek ∙ ap (λ (n : ℕ). least-key near keys n k) (mod-eq-of-lt (omega arith)))))
+    ∙ ap page-of (ek ∙ ap (λ (n : ℕ). least-key near keys n k) (mod-eq-of-lt (omega arith)))))
 
 pub page-none : (near keys : List ℕ) (k : ℕ) (x : Option ℕ) → Path (Option ℕ) x none → Nowhere ≡ found (least-page near keys k x)
 unfolding least-page

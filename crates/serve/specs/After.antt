@@ -9,8 +9,6 @@ use lib.Seq.{getD-set-same, getD-set-other, ext-getD}
 use Rattle.paging.specs.Tests.{same-or-not, le-or-lt}
 use Rattle.paging.specs.Tables.{table-past}
 use Rattle.paging.specs.Moves.{bar, next-moved}
-use Rattle.paging.specs.Certificate.{held}
-use Rattle.ranking.specs.Key.{key-of}
 use Rattle.layers.specs.Asked.{layer-at, asked, lowered, sunk}
 use Rattle.layers.specs.Laws.{asked-at, next-lowered, sunk-length, sunk-at, sunk-past}
 use Rattle.slots.specs.Slots.{no-page, near-of, keys-of}
@@ -21,11 +19,11 @@ near-past : (layer h : List ℕ) (k s : ℕ) → k ≤ s → getD (near-of layer
 unfolding near-of
 near-past layer h k s l = table-past 64 k 0 (λ s. getD layer (getD h s no-page) 0) s l
 
-keys-past : (priority h : List ℕ) (k s : ℕ) → k ≤ s → getD (keys-of priority h k) s 0 ≡ 0
+keys-past : (key : ℕ → ℕ) (h : List ℕ) (k s : ℕ) → k ≤ s → getD (keys-of key h k) s 0 ≡ 0
 unfolding keys-of
-keys-past priority h k s l = table-past 64 k 0 (λ s. key-of (getD priority (getD h s no-page) 0) (getD h s no-page)) s l
+keys-past key h k s l = table-past 64 k 0 (λ s. key (getD h s no-page)) s l
 
-module _ (N k p : ℕ) (layer priority held : List ℕ) (w : Ready N k p layer priority held) where
+module _ (N k p : ℕ) (layer held : List ℕ) (w : Ready N k p layer held) where
   abbrev L : ℕ → ℕ
   L = layer-at layer
 
@@ -89,46 +87,51 @@ module _ (N k p : ℕ) (layer priority held : List ℕ) (w : Ready N k p layer p
           (λ ne. ⊎-elim (past t) (λ lt. below t lt ne) (le-or-lt k t))
           (same-or-not t s)
 
-  -- where a slot takes p, its key is that of p
+  -- a slot that has p now has its new key; held′ is held, but for that slot
   pub keys-after :
-      (s : ℕ) → s < k → set (keys-of priority held k) s (key-of (getD priority p 0) p) ≡ keys-of priority (set held s p) k
-  keys-after s l = ext-getD 0 old new size same
+      (key key′ : ℕ → ℕ) (new : ℕ) →
+      ((q : ℕ) → (q ≡ p → ⊥) → key′ q ≡ key q) →
+      key′ p ≡ new →
+      (held′ : List ℕ) (s : ℕ) →
+      s < k →
+      getD held′ s no-page ≡ p →
+      ((t : ℕ) → t < k → (t ≡ s → ⊥) → (getD held′ t no-page ≡ getD held t no-page) × (getD held t no-page ≡ p → ⊥)) →
+      set (keys-of key held k) s new ≡ keys-of key′ held′ k
+  keys-after key key′ new others own held′ s l here other = ext-getD 0 old keys′ size same
     where
       old : List ℕ
-      old = set (keys-of priority held k) s (key-of (getD priority p 0) p)
+      old = set (keys-of key held k) s new
 
-      new : List ℕ
-      new = keys-of priority (set held s p) k
+      keys′ : List ℕ
+      keys′ = keys-of key′ held′ k
 
-      size : length old ≡ length new
+      size : length old ≡ length keys′
       size =
-          length-set (keys-of priority held k) s (key-of (getD priority p 0) p)
-          ∙ (keys-length priority held k (w .slots .1) ∙ sym (keys-length priority (set held s p) k (w .slots .1)))
+          length-set (keys-of key held k) s new
+          ∙ (keys-length key held k (w .slots .1) ∙ sym (keys-length key′ held′ k (w .slots .1)))
 
-      page : getD (set held s p) s no-page ≡ p
-      page = getD-set-same held s p no-page (omega (arith, w .long .1, w .slots .1))
-
-      at-s : getD old s 0 ≡ getD new s 0
+      at-s : getD old s 0 ≡ getD keys′ s 0
       at-s =
-          getD-set-same (keys-of priority held k) s (key-of (getD priority p 0) p) 0 (omega (arith, keys-length priority held k (w .slots .1), w .slots .1))
-          ∙ sym (keys-at priority (set held s p) k s l ∙ ap (λ (x : ℕ). key-of (getD priority x 0) x) page)
+          getD-set-same (keys-of key held k) s new 0 (omega (arith, keys-length key held k (w .slots .1), w .slots .1))
+          ∙ sym (keys-at key′ held′ k s l ∙ (ap key′ here ∙ own))
 
-      off : (t : ℕ) → (t ≡ s → ⊥) → getD old t 0 ≡ getD (keys-of priority held k) t 0
-      off t ne = getD-set-other (keys-of priority held k) s t (key-of (getD priority p 0) p) 0 ne
+      off : (t : ℕ) → (t ≡ s → ⊥) → getD old t 0 ≡ getD (keys-of key held k) t 0
+      off t ne = getD-set-other (keys-of key held k) s t new 0 ne
 
-      below : (t : ℕ) → t < k → (t ≡ s → ⊥) → getD old t 0 ≡ getD new t 0
+      below : (t : ℕ) → t < k → (t ≡ s → ⊥) → getD old t 0 ≡ getD keys′ t 0
       below t lt ne =
+          let (e, np) = other t lt ne in
           off t ne
-          ∙ (keys-at priority held k t lt
-          ∙ sym (keys-at priority (set held s p) k t lt ∙ ap (λ (x : ℕ). key-of (getD priority x 0) x) (getD-set-other held s t p no-page ne)))
+          ∙ (keys-at key held k t lt
+          ∙ sym (keys-at key′ held′ k t lt ∙ (ap key′ e ∙ others (getD held t no-page) np)))
 
-      same : (t : ℕ) → t < length old → getD old t 0 ≡ getD new t 0
+      same : (t : ℕ) → t < length old → getD old t 0 ≡ getD keys′ t 0
       same t _ =
           ⊎-elim
-          (λ e. ap (λ (x : ℕ). getD old x 0) e ∙ (at-s ∙ sym (ap (λ (x : ℕ). getD new x 0) e)))
+          (λ e. ap (λ (x : ℕ). getD old x 0) e ∙ (at-s ∙ sym (ap (λ (x : ℕ). getD keys′ x 0) e)))
           (λ ne.
           ⊎-elim
-          (λ h. off t ne ∙ (keys-past priority held k t h ∙ sym (keys-past priority (set held s p) k t h)))
+          (λ h. off t ne ∙ (keys-past key held k t h ∙ sym (keys-past key′ held′ k t h)))
           (λ lt. below t lt ne)
           (le-or-lt k t))
           (same-or-not t s)

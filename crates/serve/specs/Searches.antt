@@ -1,34 +1,36 @@
 -- The searches of a miss over the slots find what document 01's rule over the pages says. Assumes nothing.
-use mathlib.Core.Bool.{true, _&&_}
+use mathlib.Core.Bool.{Bool, true, _&&_}
 use mathlib.Core.List.{List}
 use mathlib.Core.Option.{Option, some}
 use mathlib.Core.Path.{Path, _≡_, refl, sym, ap, subst, fun-ext, _∙_}
-use Prim.Native.Nat.{ℕ, suc, _-_, _%_, _≤_, _<_}
+use Prim.Native.Nat.{ℕ, suc, _≤_, _<_}
 use native.Mathlib.Omega.{arith}
 use lib.Dec.{eqb, leb}
 use lib.ListN.{getD}
 use borrow.Author.Tests.{eq-eqb, ne-eqb}
-use Rattle.paging.specs.Sets.{Pages, _∈_, count, first, lowest}
-use Rattle.paging.specs.Ranking.{Ranking}
+use Rattle.paging.specs.Sets.{Pages, _∈_, Same, count, first, lowest}
+use Rattle.paging.specs.Selection.{chosen}
 use Rattle.paging.specs.Victim.{cached-to, full, reach, lowest-to, victim}
 use Rattle.paging.specs.Words.{IsLowest, lowest-found}
-use Rattle.paging.specs.Certificate.{held, Justified}
+use Rattle.paging.specs.Certificate.{Justified}
 use Rattle.paging.specs.Update.{no-zero}
 use Rattle.paging.specs.Found.{cached-to-in, cached-to-member, cached-to-layer, count-to, lowest-at, reach-some}
 use Rattle.paging.specs.Theorems.{selection-justified, miss-reach, victim-cached}
-use Rattle.ranking.specs.Order.{outranks-ranking}
-use Rattle.ranking.specs.Key.{key-of}
+use Rattle.ranking.specs.Key.{Keyed, keyed-apart, page-of}
 use Rattle.layers.specs.Asked.{layer-at}
 use Rattle.slots.specs.Slots.{no-page, seated, found, near-of, keys-of, near-to, least-key}
-use Rattle.slots.specs.Laws.{near-at, seated-in, seated-was, least-le}
-use Rattle.slots.specs.Held.{Seats, near-held, slot-small, keys-at-slot, least-slot, key-outranks, key-apart, near-some}
-use Rattle.serve.specs.Step.{by, Ready, victim-in}
+use Rattle.slots.specs.Laws.{near-at, keys-at, seated-in, seated-was, least-le}
+use Rattle.slots.specs.Held.{Seats, near-held, least-slot, near-some}
+use Rattle.serve.specs.Step.{Ready, victim-in}
 
 module _
     (N k p : ℕ)
-    (layer priority held : List ℕ)
-    (w : Ready N k p layer priority held)
-    (small : (q : ℕ) → getD priority q 0 ≤ 65535)
+    (o : ℕ → ℕ → Bool)
+    (key : ℕ → ℕ)
+    (layer held : List ℕ)
+    (w : Ready N k p layer held)
+    (keyed : Keyed N o key)
+    (cached : Same N (chosen N o (layer-at layer) k) (seated held k))
   where
     abbrev L : ℕ → ℕ
     L = layer-at layer
@@ -43,27 +45,24 @@ module _
     near = near-of layer held k
 
     abbrev keys : List ℕ
-    keys = keys-of priority held k
+    keys = keys-of key held k
 
-    seats : Seats N k priority held
-    seats = record { pages = w .pages; slots = w .slots .1; holds = w .holds; one = w .one; small = small }
+    seats : Seats N k o key held
+    seats = record { slots = w .slots .1; holds = w .holds; one = w .one; keyed = keyed }
 
-    rank : Ranking N (by priority)
-    rank = outranks-ranking N (λ q. getD priority q 0)
-
-    just : Justified N k L (by priority) M
-    just = selection-justified N k (by priority) L rank (w .layered) M .0 (w .cached)
+    just : Justified N k L o M
+    just = selection-justified N k o L (keyed .ranking) (w .layered) M .0 cached
 
     near-is : (s : ℕ) → s < k → getD near s 0 ≡ L (in-slot s)
     near-is s l = near-at layer held k s l
 
     seated-layer : (s : ℕ) → s < k → 0 < L (in-slot s)
     seated-layer s l =
-        no-zero N k L (by priority) M just (in-slot s) (w .holds s l) (seated-in held k (in-slot s) s l refl)
+        no-zero N k L o M just (in-slot s) (w .holds s l) (seated-in held k (in-slot s) s l refl)
 
     -- the slots that hold a page of a layer up to j are as many as the cached pages of layers 1 to j,
     near-count : (j : ℕ) → near-to near k j ≡ count (cached-to L M j) N
-    near-count j = near-held N k layer priority held seats j ∙ sym (count-to N k L (by priority) M just j)
+    near-count j = near-held N k o key layer held seats j ∙ sym (count-to N k L o M just j)
 
     -- so the search over the slots finds the same j
     pub near-reach : (i : ℕ) → Path (Option ℕ) (first (suc k) (λ j. leb i j && eqb (near-to near k j) j)) (reach N k L M i)
@@ -74,10 +73,7 @@ module _
 
     -- the page of the least key
     abbrev pub lowest-page : ℕ → ℕ
-    lowest-page j = 65535 - least-key near keys j k % 65536
-
-    abbrev key : ℕ → ℕ
-    key q = key-of (getD priority q 0) q
+    lowest-page j = page-of (least-key near keys j k)
 
     -- a page in another slot outranks it
     outranks-lowest :
@@ -87,18 +83,15 @@ module _
         getD near u 0 ≤ j →
         least-key near keys j k ≡ key (in-slot t) →
         (in-slot u ≡ in-slot t → ⊥) →
-        by priority (in-slot u) (in-slot t) ≡ true
+        o (in-slot u) (in-slot t) ≡ true
     outranks-lowest j t u lt lu hu e ne =
-        key-outranks N k layer priority held seats (in-slot u) (in-slot t) (fits u lu) (fits t lt) .0 (omega (arith, least, apart))
+        keyed .order (in-slot u) (in-slot t) (w .holds u lu) (w .holds t lt) .0 (omega (arith, least, apart))
       where
-        fits : (s : ℕ) → s < k → in-slot s ≤ 65535
-        fits = slot-small N k layer priority held seats
-
         least : key (in-slot t) ≤ key (in-slot u)
-        least = omega (arith, e, keys-at-slot N k layer priority held seats u lu, least-le near keys j k u lu hu)
+        least = omega (arith, e, keys-at key held k u lu, least-le near keys j k u lu hu)
 
         apart : key (in-slot u) ≡ key (in-slot t) → ⊥
-        apart h = ne (key-apart N k layer priority held seats (in-slot u) (in-slot t) (fits u lu) (fits t lt) h)
+        apart h = ne (keyed-apart N o key keyed (in-slot u) (in-slot t) (w .holds u lu) (w .holds t lt) h)
 
     -- it is the lowest-ranking page of the set whose pages are those in the slots of layers up to j
     lowest-is :
@@ -108,17 +101,17 @@ module _
         (s : ℕ) →
         s < k →
         getD near s 0 ≤ j →
-        Path (Option ℕ) (lowest N (by priority) X) (some (lowest-page j))
+        Path (Option ℕ) (lowest N o X) (some (lowest-page j))
     lowest-is X j into from s l le =
-        let (t, lt, ht, page, e) = least-slot N k layer priority held seats j s l le in
-        lowest-found N (by priority) X rank (lowest-page j) (subst (IsLowest N (by priority) X) page (at-slot t lt ht e))
+        let (t, lt, ht, page, e) = least-slot N k o key layer held seats j s l le in
+        lowest-found N o X (keyed .ranking) (lowest-page j) (subst (IsLowest N o X) page (at-slot t lt ht e))
       where
         at-slot :
             (t : ℕ) →
             t < k →
             getD near t 0 ≤ j →
             least-key near keys j k ≡ key (in-slot t) →
-            IsLowest N (by priority) X (in-slot t)
+            IsLowest N o X (in-slot t)
         at-slot t lt ht e =
             record {
               page = w .holds t lt;
@@ -126,13 +119,13 @@ module _
               below = λ q lq m ne.
                   let (u, lu, hu, g) = from q lq m in
                   subst
-                  (λ (x : ℕ). by priority x (in-slot t) ≡ true)
+                  (λ (x : ℕ). o x (in-slot t) ≡ true)
                   g
                   (outranks-lowest j t u lt lu hu e (λ s. ne (sym g ∙ s)));
             }
 
     -- p in L_0: the lowest-ranking cached page, found with j = k
-    pub new-victim : L p ≡ 0 → Path (Option ℕ) (victim-in N k p layer priority held) (some (lowest-page k))
+    pub new-victim : L p ≡ 0 → Path (Option ℕ) (victim-in N k p o layer held) (some (lowest-page k))
     unfolding victim
     new-victim z = rw (eq-eqb (L p) 0 z) (lowest-is M k into from 0 (w .slots .0) (low 0 (w .slots .0)))
       where
@@ -152,12 +145,12 @@ module _
         (j : ℕ) →
         0 < L p →
         Path (Option ℕ) (reach N k L M (L p)) (some j) →
-        Path (Option ℕ) (victim-in N k p layer priority held) (some (lowest-page j))
+        Path (Option ℕ) (victim-in N k p o layer held) (some (lowest-page j))
     unfolding victim
     known-victim j pos found =
         rw (ne-eqb (L p) 0 (λ z. omega arith))
-        (ap (lowest-to N (by priority) L M) found
-        ∙ (lowest-at N (by priority) L M j
+        (ap (lowest-to N o L M) found
+        ∙ (lowest-at N o L M j
         ∙ lowest-is (cached-to L M j) j into from (some-slot .0) (some-slot .1) (some-slot .2)))
       where
         into : (s : ℕ) → s < k → getD near s 0 ≤ j → in-slot s ∈ cached-to L M j
@@ -175,9 +168,9 @@ module _
     -- a search for a page of a layer above 0 that is not cached always ends
     pub reach-there : 0 < L p → (j : ℕ) × (j ≤ k) × Path (Option ℕ) (reach N k L M (L p)) (some j)
     reach-there pos =
-        miss-reach N k p (by priority) (by priority) L M (w .slots .0) rank rank (λ a b la lb na nb. refl) (w .layered) (w .page) (w .cached) pos
+        miss-reach N k p o o L M (w .slots .0) (keyed .ranking) (keyed .ranking) (λ a b la lb na nb. refl) (w .layered) (w .page) cached pos
 
     -- and the victim is in a slot
-    pub victim-seated : (v : ℕ) → Path (Option ℕ) (victim-in N k p layer priority held) (some v) → (v < N) × (v ∈ M)
+    pub victim-seated : (v : ℕ) → Path (Option ℕ) (victim-in N k p o layer held) (some v) → (v < N) × (v ∈ M)
     victim-seated =
-        victim-cached N k p (by priority) (by priority) L M (w .slots .0) rank rank (λ a b la lb na nb. refl) (w .layered) (w .page) (w .cached)
+        victim-cached N k p o o L M (w .slots .0) (keyed .ranking) (keyed .ranking) (λ a b la lb na nb. refl) (w .layered) (w .page) cached

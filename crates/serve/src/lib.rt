@@ -6,8 +6,9 @@ ghost use Prim.Native.Nat.{ℕ, _<_, _≤_};
 ghost use lib.ListN.{length, set};
 ghost use Rattle.paging.specs.Moves.{bar};
 ghost use Rattle.layers.specs.Asked.{layer-at, asked, sunk};
-ghost use Rattle.slots.specs.Slots.{seated, found, near-of, keys-of};
-ghost use Rattle.serve.specs.Step.{Ready, Stepped, least-page, search-to};
+ghost use Rattle.slots.specs.Slots.{seated, found, near-of};
+ghost use Rattle.serve.specs.Step.{Ready, Steps, least-page, search-to};
+use ranking::Key;
 use slots::Found;
 
 // What a request comes to.
@@ -29,7 +30,7 @@ fn search(near: &[u8; 64], slots: u8, i: u8) -> Found
 }
 
 // The page that makes room for a page of layer i.
-fn victim<'a>(near: &'a [u8; 64], keys: &'a [u32; 64], slots: u8, i: u8) -> Found
+fn victim<'a>(near: &'a [u8; 64], keys: &'a [Key; 64], slots: u8, i: u8) -> Found
     requires { ⌜ slots ≤ 64 ⌝ }
     ensures { λ r. ⌜ r ≡ found (least-page (now (near .entry)) (now (keys .entry)) slots (search-to (now (near .entry)) slots i)) ⌝ }
 {
@@ -37,7 +38,7 @@ fn victim<'a>(near: &'a [u8; 64], keys: &'a [u32; 64], slots: u8, i: u8) -> Foun
     match to {
         Found::At(j) => {
             let key = slots::lowest(near, keys, slots as usize, (j % 256) as u8);
-            Found::At(slots::page_of(key) as usize)
+            Found::At(ranking::page_of(key) as usize)
         }
         Found::Nowhere => Found::Nowhere,
     }
@@ -67,22 +68,20 @@ fn settle<'a>(
 // A request of a page that is in no slot: it takes the slot of its victim. 17: a miss finds no j, or its victim no slot.
 fn swap<'a>(
     layer: &'a mut [u8; 1024],
-    priority: &'a [u16; 1024],
     held: &'a mut [u16; 64],
     near: &'a mut [u8; 64],
-    keys: &'a mut [u32; 64],
+    keys: &'a mut [Key; 64],
     pages: usize,
     slots: u8,
     page: u16,
+    key: Key,
 ) -> Event
-    requires ready { ⌜ Ready pages slots page (now layer) (now priority) (now held) ⌝ }
-    requires nears { ⌜ (now near ≡ near-of (now layer) (now held) slots) × (now keys ≡ keys-of (now priority) (now held) slots) ⌝ }
+    requires ready { ⌜ Ready pages slots page (now layer) (now held) ⌝ }
+    requires nears { ⌜ (now near ≡ near-of (now layer) (now held) slots) × (length (now keys) ≡ 64) ⌝ }
     requires away { ⌜ seated (now held) slots page ≡ false ⌝ }
-    ensures { λ r. ⌜ Stepped pages slots page (now (layer .entry)) (now (priority .entry)) (now (held .entry)) r (now (layer .exit)) (now (held .exit)) (now (near .exit)) (now (keys .exit)) ⌝ }
+    ensures { λ r. ⌜ Steps pages slots page (now (layer .entry)) (now (held .entry)) (now (keys .entry)) key r (now (layer .exit)) (now (held .exit)) (now (near .exit)) (now (keys .exit)) ⌝ }
 {
     let p = page as usize;
-    let numbers: &[u16] = priority;
-    let key = ranking::key(numbers[p], page);
     let out = victim(near, keys, slots, layer[p]);
     let Found::At(v) = out else {
         return Event::Refused { number: 17 };
@@ -97,26 +96,27 @@ fn swap<'a>(
     Event::Miss { slot: s, victim: v }
 }
 
-// A request of `page`: the event, and the arrays after it.
+// A request of `page`, whose key after it is `key`: the event, and the arrays after it.
 pub fn step<'a>(
     layer: &'a mut [u8; 1024],
-    priority: &'a [u16; 1024],
     held: &'a mut [u16; 64],
     near: &'a mut [u8; 64],
-    keys: &'a mut [u32; 64],
+    keys: &'a mut [Key; 64],
     pages: usize,
     slots: u8,
     page: u16,
+    key: Key,
 ) -> Event
-    requires ready { ⌜ Ready pages slots page (now layer) (now priority) (now held) ⌝ }
-    requires nears { ⌜ (now near ≡ near-of (now layer) (now held) slots) × (now keys ≡ keys-of (now priority) (now held) slots) ⌝ }
-    ensures { λ r. ⌜ Stepped pages slots page (now (layer .entry)) (now (priority .entry)) (now (held .entry)) r (now (layer .exit)) (now (held .exit)) (now (near .exit)) (now (keys .exit)) ⌝ }
+    requires ready { ⌜ Ready pages slots page (now layer) (now held) ⌝ }
+    requires nears { ⌜ (now near ≡ near-of (now layer) (now held) slots) × (length (now keys) ≡ 64) ⌝ }
+    ensures { λ r. ⌜ Steps pages slots page (now (layer .entry)) (now (held .entry)) (now (keys .entry)) key r (now (layer .exit)) (now (held .exit)) (now (near .exit)) (now (keys .exit)) ⌝ }
 {
     let p = page as usize;
     let place = slots::find(held, slots as usize, page);
     let Found::At(s) = place else {
-        return swap(layer, priority, held, near, keys, pages, slots, page);
+        return swap(layer, held, near, keys, pages, slots, page, key);
     };
+    keys[s] = key;
     // The page of L_k is alone there, so that nothing moves.
     if layer[p] == slots {
         return Event::Hit { slot: s };

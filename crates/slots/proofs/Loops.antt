@@ -15,7 +15,7 @@ use Rattle.paging.specs.Sets.{_=?_, _≤?_, if_then_else_, bit, count, or-else,
 use Rattle.paging.specs.Tests.{clash, isnt, and-in, and-right, le-or-lt}
 use Rattle.paging.specs.Count.{count-most as count-at-most}
 use Rattle.paging.specs.Words.{first-some, first-is, first-same}
-use Rattle.ranking.specs.Key.{key-of}
+use Rattle.ranking.specs.Key.{no-key}
 use Rattle.slots.specs.declared.Found.the-variants.{At, Nowhere}
 use Rattle.slots.specs.Slots.{no-page, seat, found, near-of, keys-of, near-to, tally-of, least-key}
 use Rattle.slots.specs.Laws.{near-most, near-more}
@@ -136,12 +136,10 @@ unfolding near-of
 near-next layer h near s p l ep en = rw (add-one s, en, ep) (table-more 64 s 0 (λ s. getD layer (getD h s no-page) 0) l)
 
 pub keys-next :
-    (priority h keys : List ℕ) (s p r : ℕ) → s < 64 → p ≡ getD h s no-page → r ≡ key-of (getD priority p 0) p →
-    keys ≡ keys-of priority h s → set keys s r ≡ keys-of priority h (s + 1)
+    (key : ℕ → ℕ) (h keys : List ℕ) (s p r : ℕ) → s < 64 → p ≡ getD h s no-page → r ≡ key p →
+    keys ≡ keys-of key h s → set keys s r ≡ keys-of key h (s + 1)
 unfolding keys-of
-keys-next priority h keys s p r l ep er ek =
-    rw (add-one s, ek, er, ep)
-    (table-more 64 s 0 (λ s. key-of (getD priority (getD h s no-page) 0) (getD h s no-page)) l)
+keys-next key h keys s p r l ep er ek = rw (add-one s, ek, er, ep) (table-more 64 s 0 (λ s. key (getD h s no-page)) l)
 
 pub count-next :
     (near : List ℕ) (j s n r : ℕ) → n ≡ near-to near s j → r ≡ bit (getD near s 0 ≤? j) → n + r ≡ near-to near (s + 1) j
@@ -188,6 +186,6 @@ sum-next near sums k j n r l en es er = let one : j + 1 ≡ suc j = add-one j in
 
 pub least-next :
     (near keys : List ℕ) (j s m p r : ℕ) → m ≡ least-key near keys j s →
-    p ≡ (if getD near s 0 ≤? j then getD keys s 0 else 4294967295) → r ≡ min m p → r ≡ least-key near keys j (s + 1)
+    p ≡ (if getD near s 0 ≤? j then getD keys s 0 else no-key) → r ≡ min m p → r ≡ least-key near keys j (s + 1)
 unfolding least-key
 least-next near keys j s m p r em ep er = rw (add-one s, er, em, ep)

@@ -13,6 +13,7 @@ use borrow.Author.Tests.{eq-eqb, ne-eqb, le-leb, lt-leb}
 use Rattle.paging.specs.Sets.{if_then_else_, bit, count, listed}
 use Rattle.paging.specs.Tests.{le-or-lt, same-or-not}
 use Rattle.paging.specs.Tables.{listed-entry, listed-set}
+use Rattle.ranking.specs.Key.{no-key}
 use Rattle.slots.specs.Slots.{near-to, tally-of, least-key, layer-least, leasts-of}
 use Rattle.slots.specs.Laws.{near-most, near-more}
 
@@ -62,7 +63,7 @@ module _ (near : List ℕ) (k : ℕ) where
 
 -- ---- the least key of a layer
 
-pub leasts-none : (near keys : List ℕ) → replicate 256 4294967295 ≡ leasts-of near keys 0
+pub leasts-none : (near keys : List ℕ) → replicate 256 no-key ≡ leasts-of near keys 0
 unfolding leasts-of listed layer-least
 leasts-none near keys = refl
 
@@ -82,7 +83,7 @@ module _ (near keys least : List ℕ) (s l : ℕ) (at : l ≡ getD near s 0) (sm
       here : r ≡ of-layer (suc s) l
       here = rw (eq-eqb (getD near s 0) l (sym at)) (er ∙ ap (λ (m : ℕ). min m (getD keys s 0)) least-was)
 
-      most : (i k : ℕ) → of-layer k i ≤ 4294967295
+      most : (i k : ℕ) → of-layer k i ≤ no-key
       most i zero = omega arith
       most i (suc k) = omega (arith, most i k)
 
@@ -93,27 +94,27 @@ module _ (near keys least : List ℕ) (s l : ℕ) (at : l ≡ getD near s 0) (sm
 
 -- the least key of the layers before j
 unfoldable pub least-before : List ℕ → List ℕ → ℕ → ℕ → ℕ
-least-before near keys k zero = 4294967295
+least-before near keys k zero = no-key
 least-before near keys k (suc j) = least-key near keys j k
 
 -- a slot more, of a layer that stands before, here or after
-module _ (a b c key : ℕ) (e : min a b ≡ c) (la : a ≤ 4294967295) (lb : b ≤ 4294967295) where
-  slot-before : min (min a key) (min b 4294967295) ≡ min c key
+module _ (a b c key : ℕ) (e : min a b ≡ c) (la : a ≤ no-key) (lb : b ≤ no-key) where
+  slot-before : min (min a key) (min b no-key) ≡ min c key
   slot-before = omega arith
 
-  slot-here : min (min a 4294967295) (min b key) ≡ min c key
+  slot-here : min (min a no-key) (min b key) ≡ min c key
   slot-here = omega arith
 
-  slot-after : min (min a 4294967295) (min b 4294967295) ≡ min c 4294967295
+  slot-after : min (min a no-key) (min b no-key) ≡ min c no-key
   slot-after = omega arith
 
 module _ (near keys : List ℕ) where
-  key-most : (j k : ℕ) → least-key near keys j k ≤ 4294967295
+  key-most : (j k : ℕ) → least-key near keys j k ≤ no-key
   unfolding least-key
   key-most j zero = omega arith
   key-most j (suc k) = omega (arith, key-most j k)
 
-  layer-most : (j k : ℕ) → layer-least near keys j k ≤ 4294967295
+  layer-most : (j k : ℕ) → layer-least near keys j k ≤ no-key
   unfolding layer-least
   layer-most j zero = omega arith
   layer-most j (suc k) = omega (arith, layer-most j k)
@@ -145,8 +146,8 @@ module _ (near keys : List ℕ) where
 
       Goal : Type 0
       Goal =
-          min (min a (if leb x j then key else 4294967295)) (min b (if eqb x (suc j) then key else 4294967295))
-          ≡ min c (if leb x (suc j) then key else 4294967295)
+          min (min a (if leb x j then key else no-key)) (min b (if eqb x (suc j) then key else no-key))
+          ≡ min c (if leb x (suc j) then key else no-key)
 
       go : min a b ≡ c → Goal
       go e = ⊎-elim before (λ p. ⊎-elim here (after p) (same-or-not x (suc j))) (le-or-lt x j)
@@ -171,7 +172,7 @@ module _ (near keys : List ℕ) where
   least-more zero k = omega (arith, layer-first k, layer-most 0 k)
   least-more (suc j) k = layer-more j k
 
-  pub least-none : (k : ℕ) → 4294967295 ≡ least-before near keys k 0
+  pub least-none : (k : ℕ) → no-key ≡ least-before near keys k 0
   unfolding least-before
   least-none k = refl
 

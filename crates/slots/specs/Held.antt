@@ -1,10 +1,9 @@
 -- The slots that hold a page of a layer up to j are as many as the cached pages up to that layer; and which of the keys of the
 -- pages in the slots is the least. Assumes nothing.
-use mathlib.Core.Bool.{true, _&&_}
+use mathlib.Core.Bool.{Bool, true, _&&_}
 use mathlib.Core.List.{List}
-use mathlib.Core.Logic.{_↔_}
 use mathlib.Core.Path.{_≡_, refl, sym, ap, subst, _∙_}
-use Prim.Native.Nat.{ℕ, _-_, _%_, _≤_, _<_}
+use Prim.Native.Nat.{ℕ, _≤_, _<_}
 use native.Mathlib.Omega.{arith}
 use lib.Dec.{leb}
 use borrow.Author.Tests.{leb-true}
@@ -12,21 +11,19 @@ use lib.ListN.{getD}
 use Rattle.paging.specs.Sets.{Pages, count}
 use Rattle.paging.specs.Tests.{and-in, and-left}
 use Rattle.paging.specs.Count.{count-same, count-some, count-all}
-use Rattle.paging.specs.Certificate.{upto, held}
-use Rattle.ranking.specs.Outranks.{outranks}
-use Rattle.ranking.specs.Key.{key-of, key-order}
+use Rattle.paging.specs.Certificate.{upto}
+use Rattle.ranking.specs.Key.{Keyed, page-of, no-key}
 use Rattle.slots.specs.Slots.{no-page, seated, near-of, keys-of, near-to, least-key}
-use Rattle.slots.specs.Laws.{near-at, keys-at, count-seated, least-is, key-page, key-fits}
+use Rattle.slots.specs.Laws.{near-at, keys-at, count-seated, least-is}
 
--- The tables of a run whose first k slots hold different pages below N.
-pub record Seats (N k : ℕ) (priority held : List ℕ) : Type 0 where
-  pub pages : N ≤ 1024
+-- The tables of a run whose first k slots hold different pages below N, and keys that stand for its ranking.
+pub record Seats (N k : ℕ) (o : ℕ → ℕ → Bool) (key : ℕ → ℕ) (held : List ℕ) : Type 0 where
   pub slots : k ≤ 64
   pub holds : (s : ℕ) → s < k → getD held s no-page < N
   pub one : (s t : ℕ) → s < k → t < k → getD held s no-page ≡ getD held t no-page → s ≡ t
-  pub small : (q : ℕ) → getD priority q 0 ≤ 65535
+  pub keyed : Keyed N o key
 
-module _ (N k : ℕ) (layer priority held : List ℕ) (w : Seats N k priority held) where
+module _ (N k : ℕ) (o : ℕ → ℕ → Bool) (key : ℕ → ℕ) (layer held : List ℕ) (w : Seats N k o key held) where
   abbrev L : ℕ → ℕ
   L q = getD layer q 0
 
@@ -40,10 +37,7 @@ module _ (N k : ℕ) (layer priority held : List ℕ) (w : Seats N k priority he
   near = near-of layer held k
 
   abbrev keys : List ℕ
-  keys = keys-of priority held k
-
-  abbrev key : ℕ → ℕ
-  key q = key-of (getD priority q 0) q
+  keys = keys-of key held k
 
   pub near-held : (j : ℕ) → near-to near k j ≡ count (upto L M j) N
   unfolding near-to upto
@@ -66,30 +60,15 @@ module _ (N k : ℕ) (layer priority held : List ℕ) (w : Seats N k priority he
       all : (n : ℕ) → count (λ s. true) n ≡ n
       all n = count-all n
 
-  pub slot-small : (s : ℕ) → s < k → in-slot s ≤ 65535
-  slot-small s l = omega (arith, w .holds s l, w .pages)
-
-  pub keys-at-slot : (s : ℕ) → s < k → getD keys s 0 ≡ key (in-slot s)
-  keys-at-slot s l = keys-at priority held k s l
-
   -- a slot with the least key up to layer j, and its page
   pub least-slot :
       (j s : ℕ) → s < k → getD near s 0 ≤ j →
-      (t : ℕ) × (t < k) × (getD near t 0 ≤ j) × (in-slot t ≡ 65535 - least-key near keys j k % 65536) × (least-key near keys j k ≡ key (in-slot t))
+      (t : ℕ) × (t < k) × (getD near t 0 ≤ j) × (in-slot t ≡ page-of (least-key near keys j k)) × (least-key near keys j k ≡ key (in-slot t))
   least-slot j s l le =
-      let fits : getD keys s 0 ≤ 4294967295 = rw (keys-at-slot s l) (key-fits (getD priority (in-slot s) 0) (in-slot s) (w .small (in-slot s))) in
+      let fits : getD keys s 0 ≤ no-key = omega (arith, keys-at key held k s l, w .keyed .small (in-slot s) (w .holds s l)) in
       let (t, lt, ht, e) = least-is near keys j k s l le fits in
-      let page = key-page (getD priority (in-slot t) 0) (in-slot t) (slot-small t lt) in
-      (t, lt, ht, sym (ap (λ (x : ℕ). 65535 - x % 65536) (e ∙ keys-at-slot t lt) ∙ page), e ∙ keys-at-slot t lt)
-
-  -- pages with different numbers have different keys, and the greater key outranks
-  pub key-outranks :
-      (q u : ℕ) → q ≤ 65535 → u ≤ 65535 → (key u < key q) ↔ (outranks (λ q. getD priority q 0) q u ≡ true)
-  key-outranks q u lq lu = key-order (getD priority q 0) q (getD priority u 0) u lq lu
-
-  pub key-apart : (q u : ℕ) → q ≤ 65535 → u ≤ 65535 → key q ≡ key u → q ≡ u
-  key-apart q u lq lu e =
-      sym (key-page (getD priority q 0) q lq) ∙ (ap (λ (x : ℕ). 65535 - x % 65536) e ∙ key-page (getD priority u 0) u lu)
+      let is = e ∙ keys-at key held k t lt in
+      (t, lt, ht, sym (ap page-of is ∙ w .keyed .back (in-slot t) (w .holds t lt)), is)
 
 -- where some slot holds a page of a layer up to j, there is one
 pub near-some : (near : List ℕ) (k j : ℕ) → 0 < near-to near k j → (s : ℕ) × (s < k) × (getD near s 0 ≤ j)

@@ -1,11 +1,11 @@
 -- What callers use of the slots: what stands in the tables by slots, where a cached page is, cached pages counted by their
--- slots, the least key, the page of a key. Assumes nothing.
+-- slots, the least key. Assumes nothing.
 use mathlib.Core.Bool.{true, false, _&&_}
 use mathlib.Core.List.{List}
 use mathlib.Core.Logic.{_⊎_, inl, inr, ⊎-elim}
 use mathlib.Core.Option.{Option, none, some}
 use mathlib.Core.Path.{Path, _≡_, refl, sym, ap, _∙_}
-use Prim.Native.Nat.{ℕ, zero, suc, _+_, _-_, _%_, min, _≤_, _<_}
+use Prim.Native.Nat.{ℕ, zero, suc, _+_, min, _≤_, _<_}
 use native.Mathlib.Omega.{arith}
 use lib.Dec.{eqb, leb}
 use lib.ListN.{length, getD}
@@ -15,7 +15,7 @@ use Rattle.paging.specs.Tests.{truth, clash, isnt, and-in, and-left, and-right,
 use Rattle.paging.specs.Count.{count-most, count-none, count-same, count-minus}
 use Rattle.paging.specs.Words.{any-in, any-true, first-none, first-some, first-found}
 use Rattle.paging.specs.Tables.{listed-entry, table-at, table-length}
-use Rattle.ranking.specs.Key.{key-of}
+use Rattle.ranking.specs.Key.{no-key}
 use Rattle.slots.specs.Slots.{no-page, seated, seat, near-of, keys-of, near-to, tally-of, least-key}
 
 -- ---- the tables by slots
@@ -29,16 +29,14 @@ module _ (layer h : List ℕ) (k : ℕ) where
   unfolding near-of
   near-length l = table-length 64 k 0 (λ s. getD layer (getD h s no-page) 0) l
 
-module _ (priority h : List ℕ) (k : ℕ) where
-  pub keys-at :
-      (s : ℕ) → s < k →
-      getD (keys-of priority h k) s 0 ≡ key-of (getD priority (getD h s no-page) 0) (getD h s no-page)
+module _ (key : ℕ → ℕ) (h : List ℕ) (k : ℕ) where
+  pub keys-at : (s : ℕ) → s < k → getD (keys-of key h k) s 0 ≡ key (getD h s no-page)
   unfolding keys-of
-  keys-at s l = table-at 64 k 0 (λ s. key-of (getD priority (getD h s no-page) 0) (getD h s no-page)) s l
+  keys-at s l = table-at 64 k 0 (λ s. key (getD h s no-page)) s l
 
-  pub keys-length : k ≤ 64 → length (keys-of priority h k) ≡ 64
+  pub keys-length : k ≤ 64 → length (keys-of key h k) ≡ 64
   unfolding keys-of
-  keys-length l = table-length 64 k 0 (λ s. key-of (getD priority (getD h s no-page) 0) (getD h s no-page)) l
+  keys-length l = table-length 64 k 0 (λ s. key (getD h s no-page)) l
 
 -- no more slots are near than there are
 pub near-most : (near : List ℕ) (k j : ℕ) → near-to near k j ≤ k
@@ -245,9 +243,9 @@ module _ (near keys : List ℕ) (j : ℕ) where
   abbrev pub Least : ℕ → Type 0
   Least n = (s : ℕ) × (s < n) × (getD near s 0 ≤ j) × (least-key near keys j n ≡ getD keys s 0)
 
-  -- there is one, or the key is the greatest number there is
+  -- there is one, or the least key is the number that no key reaches
   abbrev Either : ℕ → Type 0
-  Either n = (least-key near keys j n ≡ 4294967295) ⊎ Least n
+  Either n = (least-key near keys j n ≡ no-key) ⊎ Least n
 
   -- one slot more: the least key is the old one or this slot's
   stays : (n : ℕ) → least-key near keys j (suc n) ≡ least-key near keys j n → Either n → Either (suc n)
@@ -255,7 +253,7 @@ module _ (near keys : List ℕ) (j : ℕ) where
   stays n e (inr w) = inr (w .0, omega (arith, w .1), w .2, e ∙ w .3)
 
   abbrev own : ℕ → ℕ
-  own n = if leb (getD near n 0) j then getD keys n 0 else 4294967295
+  own n = if leb (getD near n 0) j then getD keys n 0 else no-key
 
   turns : (n : ℕ) → least-key near keys j (suc n) ≡ own n → Either (suc n)
   turns n e = ⊎-elim in-reach out (truth (leb (getD near n 0) j))
@@ -273,17 +271,6 @@ module _ (near keys : List ℕ) (j : ℕ) where
       ⊎-elim (λ e. stays n e (least-or n)) (λ e. turns n e) (min-or (least-key near keys j n) (own n))
 
   -- a slot that is near has a key, so there is one
-  pub least-is : (n s : ℕ) → s < n → getD near s 0 ≤ j → getD keys s 0 ≤ 4294967295 → Least n
+  pub least-is : (n s : ℕ) → s < n → getD near s 0 ≤ j → getD keys s 0 ≤ no-key → Least n
   least-is n s l le fits =
       ⊎-elim (λ e. (s, l, le, omega (arith, least-le n s l le))) (λ w. w) (least-or n)
-
--- ---- the page of a key
-
-pub key-page : (priority page : ℕ) → page ≤ 65535 → 65535 - key-of priority page % 65536 ≡ page
-unfolding key-of
-key-page priority page l = omega arith
-
--- a key fits 32 bits, as `least-is` asks
-pub key-fits : (priority page : ℕ) → priority ≤ 65535 → key-of priority page ≤ 4294967295
-unfolding key-of
-key-fits priority page l = omega arith

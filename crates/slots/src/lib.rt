@@ -1,10 +1,12 @@
 // The slots of a run: where a page is, and the searches of a miss over the layers and keys of the pages in them. Assumes nothing.
 ghost use mathlib.Core.Path.{_≡_};
 ghost use mathlib.Core.Bool.{_&&_};
-ghost use Prim.Native.Nat.{ℕ, suc, _<_, _≤_, _-_, _%_, min};
+ghost use Prim.Native.Nat.{ℕ, suc, _<_, _≤_, min};
 ghost use lib.ListN.{getD};
 ghost use Rattle.paging.specs.Sets.{first, bit, if_then_else_, _=?_, _≤?_, table};
+ghost use Rattle.ranking.specs.Key.{no-key, key-at};
 ghost use Rattle.slots.specs.Slots.{no-page, seat, found, near-of, keys-of, near-to, tally-of, least-key, leasts-of};
+use ranking::Key;
 
 // A number that a search found, or that there is none.
 pub enum Found {
@@ -62,16 +64,15 @@ pub fn nears<'a>(layer: &'a [u8; 1024], held: &'a [u16; 64], slots: usize) -> [u
     near
 }
 
-// By slots, the key of the page in each.
-pub fn keys<'a>(priority: &'a [u16; 1024], held: &'a [u16; 64], slots: usize) -> [u32; 64]
+// By slots, the key of the page in each, where `pages` has the key of each page.
+pub fn keys<'a>(pages: &'a [Key; 1024], held: &'a [u16; 64], slots: usize) -> [Key; 64]
     requires { ⌜ (slots ≤ 64) × ((s : ℕ) → s < slots → getD (now held) s no-page < 1024) ⌝ }
-    ensures { λ r. ⌜ r ≡ keys-of (now (priority .entry)) (now (held .entry)) slots ⌝ }
+    ensures { λ r. ⌜ r ≡ keys-of (key-at (now (pages .entry))) (now (held .entry)) slots ⌝ }
 {
-    let mut keys = [0u32; 64];
+    let mut keys: [Key; 64] = [0; 64];
     let mut s = 0;
     while s < slots {
-        let page = held[s];
-        keys[s] = ranking::key(priority[page as usize], page);
+        keys[s] = pages[held[s] as usize];
         s += 1;
     }
     keys
@@ -177,25 +178,25 @@ pub fn reach(near: &[u8; 64], slots: u8, from: u8) -> Found
 }
 
 // The smaller of two numbers.
-fn smaller(a: u32, b: u32) -> u32
+fn smaller(a: Key, b: Key) -> Key
     ensures { λ r. ⌜ r ≡ min a b ⌝ }
 {
     if b < a { b } else { a }
 }
 
-// The key of a page of a layer up to j; of any other the greatest number there is.
-fn pick(near: u8, j: u8, key: u32) -> u32
-    ensures { λ r. ⌜ r ≡ (if near ≤? j then key else 4294967295) ⌝ }
+// The key of a page of a layer up to j; of any other the number that no key reaches.
+fn pick(near: u8, j: u8, key: Key) -> Key
+    ensures { λ r. ⌜ r ≡ (if near ≤? j then key else no-key) ⌝ }
 {
-    if near <= j { key } else { 4294967295 }
+    if near <= j { key } else { ranking::NO_KEY }
 }
 
 // The least key of the slots that hold a page of a layer up to j.
-pub fn lowest<'a>(near: &'a [u8; 64], keys: &'a [u32; 64], slots: usize, j: u8) -> u32
+pub fn lowest<'a>(near: &'a [u8; 64], keys: &'a [Key; 64], slots: usize, j: u8) -> Key
     requires { ⌜ slots ≤ 64 ⌝ }
     ensures { λ r. ⌜ r ≡ least-key (now (near .entry)) (now (keys .entry)) j slots ⌝ }
 {
-    let mut least: u32 = 4294967295;
+    let mut least: Key = ranking::NO_KEY;
     let mut s = 0;
     while s < slots {
         least = smaller(least, pick(near[s], j, keys[s]));
@@ -204,12 +205,12 @@ pub fn lowest<'a>(near: &'a [u8; 64], keys: &'a [u32; 64], slots: usize, j: u8) 
     least
 }
 
-// The least key of the slots of each layer; the greatest number there is, for a layer that no slot has.
-fn leasts<'a>(near: &'a [u8; 64], keys: &'a [u32; 64], slots: usize) -> [u32; 256]
+// The least key of the slots of each layer; the number that no key reaches, for a layer that no slot has.
+fn leasts<'a>(near: &'a [u8; 64], keys: &'a [Key; 64], slots: usize) -> [Key; 256]
     requires { ⌜ slots ≤ 64 ⌝ }
     ensures { λ r. ⌜ r ≡ leasts-of (now (near .entry)) (now (keys .entry)) slots ⌝ }
 {
-    let mut least: [u32; 256] = [4294967295; 256];
+    let mut least: [Key; 256] = [ranking::NO_KEY; 256];
     let mut s = 0;
     while s < slots {
         let l = layers::wide(near[s]);
@@ -220,14 +221,14 @@ fn leasts<'a>(near: &'a [u8; 64], keys: &'a [u32; 64], slots: usize) -> [u32; 25
 }
 
 // As `lowest`, for each j up to `slots`: a running minimum over the layers, O(k) for all j together.
-pub fn lows<'a>(near: &'a [u8; 64], keys: &'a [u32; 64], slots: u8) -> [u32; 65]
+pub fn lows<'a>(near: &'a [u8; 64], keys: &'a [Key; 64], slots: u8) -> [Key; 65]
     requires { ⌜ slots ≤ 64 ⌝ }
     ensures { λ r. ⌜ r ≡ table 65 (suc slots) 0 (λ j. least-key (now (near .entry)) (now (keys .entry)) j slots) ⌝ }
 {
     let k = slots as usize;
     let least = leasts(near, keys, k);
-    let mut lows = [0u32; 65];
-    let mut low: u32 = 4294967295;
+    let mut lows: [Key; 65] = [0; 65];
+    let mut low: Key = ranking::NO_KEY;
     let mut j = 0;
     while j <= k {
         low = smaller(low, least[j]);
@@ -235,11 +236,4 @@ pub fn lows<'a>(near: &'a [u8; 64], keys: &'a [u32; 64], slots: u8) -> [u32; 65]
         j += 1;
     }
     lows
-}
-
-// The page of a key.
-pub fn page_of(key: u32) -> u16
-    ensures { λ r. ⌜ r ≡ 65535 - key % 65536 ⌝ }
-{
-    (65535 - key % 65536) as u16
 }

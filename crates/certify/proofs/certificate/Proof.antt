@@ -43,7 +43,7 @@ made :
     (a .pages)
     (a .slots)
     (a .layer .now)
-    (a .priority .now)
+    (a .keys .now)
     (a .held .now)
     (near .nears .result)
     (keys .keys .result)
@@ -67,8 +67,7 @@ none-late-requires c κs = (search needs, λ q l. omega (arith, made (c .before)
 returns : tie.Need-returns
 returns c =
     let late = c .before in
-    let says = late .none-late .ensures in
-    (certificate-not _ _ _ _ _ _ _ _ _ (made (late .before .before)) _ (says .0) (c .if1 .taken), says .1)
+    certificate-not _ _ _ _ _ _ _ _ _ (made (late .before .before)) _ (late .none-late .ensures) (c .if1 .taken)
 
 has-room-requires : tie.Need-has-room-requires
 has-room-requires c κs = search needs
@@ -77,10 +76,9 @@ returns-2 : tie.Need-returns-2
 returns-2 c =
     let passed = c .before .before in
     let late = passed .before in
-    let says = late .none-late .ensures in
     let bars = late .before .before in
     let layers = tabled (bars .before .before .before) in
-    (certificate-is _ _ _ _ _ _ _ _ _ (made bars) _ _ _ _ layers (says .0) (passed .if1 .left) (c .has-room .ensures), says .1)
+    certificate-is _ _ _ _ _ _ _ _ _ (made bars) _ _ _ _ layers (late .none-late .ensures) (passed .if1 .left) (c .has-room .ensures)
 
 pub certificate-spec : {M : Type 1} → statement M
 certificate-spec =

@@ -18,14 +18,14 @@ loop-holds : tie.Need-loop-holds Inv-loop μ-loop
 unfolding each
 loop-holds c = (search needs, refl)
 
-cast-room-at : tie.Need-cast-room-at Inv-loop μ-loop
-cast-room-at c = search needs
+cast-both : tie.Need-cast-both Inv-loop μ-loop
+cast-both c = search needs
 
-element-copy-out-room-at : tie.Need-element-copy-out-room-at Inv-loop μ-loop
-element-copy-out-room-at c = search needs
+element-copy-out-both : tie.Need-element-copy-out-both Inv-loop μ-loop
+element-copy-out-both c = search needs
 
-room-at-requires : tie.Need-room-at-requires Inv-loop μ-loop
-room-at-requires c κs = search needs
+both-requires : tie.Need-both-requires Inv-loop μ-loop
+both-requires c κs = search needs
 
 add-j : tie.Need-add-j Inv-loop μ-loop
 add-j c = search needs
@@ -34,7 +34,7 @@ loop-less : tie.Need-loop-less Inv-loop μ-loop
 loop-less c = search needs
 
 loop-again : tie.Need-loop-again Inv-loop μ-loop
-loop-again c = (search needs, each-more _ _ _ _ (c .before .before .before .loop .inv .1) (c .room-at .ensures))
+loop-again c = (search needs, each-more _ _ _ _ (c .before .before .before .loop .inv .1) (c .both .ensures))
 
 returns : tie.Need-returns Inv-loop μ-loop
 returns c = each-all _ _ _ _ (search needs) (search needs) (c .before .loop .inv .1)
@@ -46,9 +46,9 @@ has-room-spec =
     Inv-loop
     μ-loop
     loop-holds
-    cast-room-at
-    element-copy-out-room-at
-    room-at-requires
+    cast-both
+    element-copy-out-both
+    both-requires
     add-j
     loop-less
     loop-again

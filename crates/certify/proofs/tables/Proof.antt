@@ -16,19 +16,19 @@ layers-fit-requires : tie.Need-layers-fit-requires
 layers-fit-requires c κs = search needs
 
 returns : tie.Need-returns
-returns c = unsound _ _ _ _ _ _ (λ p. p .layers) (refused _ _ (c .before .layers-fit .ensures) (c .if1 .taken))
+returns c o w = unsound _ _ _ _ _ (λ o p. p .layers) (refused _ _ (c .before .layers-fit .ensures) (c .if1 .taken)) o
 
 ends-clear-requires : tie.Need-ends-clear-requires
 ends-clear-requires c κs = search needs
 
 returns-2 : tie.Need-returns-2
-returns-2 c = unsound _ _ _ _ _ _ (λ p. p .ends) (refused _ _ (c .before .ends-clear .ensures) (c .if2 .taken))
+returns-2 c o w = unsound _ _ _ _ _ (λ o p. p .ends) (refused _ _ (c .before .ends-clear .ensures) (c .if2 .taken)) o
 
 mark-requires : tie.Need-mark-requires
 mark-requires c κs = search needs
 
 returns-3 : tie.Need-returns-3
-returns-3 c = unsound _ _ _ _ _ _ (λ p. p .seats) (refused _ _ (c .before .mark .ensures .0) (c .if3 .taken))
+returns-3 c o w = unsound _ _ _ _ _ (λ o p. p .seats) (refused _ _ (c .before .mark .ensures .0) (c .if3 .taken)) o
 
 -- the parts that held
 fit : (c : tie.Else1) → (let a = c .before .before .args in layers-fit (a .pages) (a .slots) (a .layer .now) ≡ true)
@@ -37,7 +37,7 @@ fit c = sym (granted _ _ (c .before .layers-fit .ensures) (c .if1 .left))
 ends :
     (c : tie.Else2) →
     (let a = c .before .before .before .before .args in
-    ends-clear (a .pages) (a .slots) (a .layer .now) (a .priority .now) (a .held .now) ≡ true)
+    ends-clear (a .pages) (a .slots) (a .layer .now) (a .held .now) ≡ true)
 ends c = sym (granted _ _ (c .before .ends-clear .ensures) (c .if2 .left))
 
 seats :
@@ -56,18 +56,18 @@ certificate-requires c κs =
     )
 
 returns-4 : tie.Need-returns-4
-returns-4 c =
-    c .certificate .ensures .0
+returns-4 c o w =
+    c .certificate .ensures
     ∙ certificate-sound
     _
     _
+    o
     _
     _
     _
     (search needs)
     (search needs)
-    (search needs)
-    (c .certificate .ensures .1 (search needs))
+    w
     (fit (c .before .before .before .before .before .before .before))
     (seats (c .before .before))
     (ends (c .before .before .before .before .before))

@@ -5,16 +5,17 @@ use mathlib.Core.Path.{_≡_, _∙_}
 use Prim.Native.Nat.{_-_, _≤_}
 use borrow.Author.Needs.{needs}
 use Rattle.paging.specs.Selection.{highest}
-use Rattle.selection.specs.Marks.{marks, marked, by}
+use Rattle.ranking.specs.Key.{by-key, key-at}
+use Rattle.selection.specs.Marks.{marks, marked}
 use Rattle.selection.proofs.Loops.{marks-none, marks-turn, marks-pass, marks-done, highest-in, highest-out}
 use Rattle.selection.proofs.kept.Statement.{statement}
 use Rattle.selection.proofs.kept.Tie as tie
 
 abbrev Inv-loop : tie.InvT-loop
-Inv-loop pages j priority set out₀ q₀ out q = (q ≤ pages) × (out ≡ marks q (highest pages (by priority) (marked set) j))
+Inv-loop pages j keys set out₀ q₀ out q = (q ≤ pages) × (out ≡ marks q (highest pages (by-key (key-at keys)) (marked set) j))
 
 abbrev μ-loop : tie.MeasureT-loop
-μ-loop pages j priority set out₀ q₀ out q = pages - q
+μ-loop pages j keys set out₀ q₀ out q = pages - q
 
 loop-holds : tie.Need-loop-holds Inv-loop μ-loop
 loop-holds c = (search needs, marks-none _)

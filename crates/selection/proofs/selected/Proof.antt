@@ -3,16 +3,17 @@ use mathlib.Core.Path.{_≡_}
 use Prim.Native.Nat.{_-_, _≤_}
 use borrow.Author.Needs.{needs}
 use Rattle.paging.specs.Selection.{chosen}
-use Rattle.selection.specs.Marks.{marks, by, layers}
+use Rattle.ranking.specs.Key.{by-key, key-at}
+use Rattle.selection.specs.Marks.{marks, layers}
 use Rattle.selection.proofs.Loops.{chosen-none, chosen-turn, chosen-done}
 use Rattle.selection.proofs.selected.Statement.{statement}
 use Rattle.selection.proofs.selected.Tie as tie
 
 abbrev Inv-loop : tie.InvT-loop
-Inv-loop layer priority pages slots set₀ j₀ set j = (j ≤ slots) × (set ≡ marks pages (chosen pages (by priority) (layers layer) j))
+Inv-loop layer keys pages slots set₀ j₀ set j = (j ≤ slots) × (set ≡ marks pages (chosen pages (by-key (key-at keys)) (layers layer) j))
 
 abbrev μ-loop : tie.MeasureT-loop
-μ-loop layer priority pages slots set₀ j₀ set j = slots - j
+μ-loop layer keys pages slots set₀ j₀ set j = slots - j
 
 loop-holds : tie.Need-loop-holds Inv-loop μ-loop
 loop-holds c = (search needs, chosen-none _ _ _ (search needs))

@@ -1,6 +1,7 @@
 -- `serve::step` meets its contract: a page that is in a slot is a hit there, any other goes to `swap`. Assumes nothing.
 use Prim.Native.Nat.{_-_}
 use mathlib.Core.Path.{sym, _∙_}
+use native.Mathlib.Omega.{arith}
 use borrow.Author.Needs.{needs}
 use Rattle.serve.proofs.Swaps.{settles, away, here, stayed, unmoved}
 use Rattle.serve.proofs.step.Statement.{statement}
@@ -16,36 +17,42 @@ enum-told : tie.Need-enum-told
 enum-told c = search needs
 
 swap-requires : tie.Need-swap-requires
-swap-requires c κs = (
-  c .before .before .before .before .before .before .before .before .pre .0,
-  (
-    c .before .before .before .before .before .before .before .before .pre .1,
-    away _ _ _ (sym (c .before .before .before .before .enum-told .given .1) ∙ c .before .before .before .before .before .before .find .ensures),
-  ),
-)
+swap-requires c κs =
+    let s = c .before .before .before .before .before .before .before .before  in (
+      s .pre .0,
+      (s .pre .1, away _ _ _ (sym (c .before .before .before .before .enum-told .given .1) ∙ c .before .before .before .before .before .before .find .ensures)),
+    )
 
 returns : tie.Need-returns
 returns c = search needs
+
+-- the slot is one of the run's
+element-write-keys : tie.Need-element-write-keys
+element-write-keys c =
+    omega (arith, here _ _ _ _ (sym (c .before .place .given .1) ∙ c .before .before .before .find .ensures), c .before .before .before .before .before .pre .0 .slots .1)
+
+mul-keys : tie.Need-mul-keys
+mul-keys c = omega (arith, element-write-keys c)
 
 element-copy-out-if1 : tie.Need-element-copy-out-if1
 element-copy-out-if1 c = search needs
 
 returns-2 : tie.Need-returns-2
 returns-2 c =
-    let s = c .before .before .before .before .before .before .before in
-    unmoved (s .pre .0) (s .pre .1 .0) (s .pre .1 .1) _
+    let s = c .before .before .before .before .before .before .before  in
+    unmoved (s .pre .0) (s .pre .1 .0) _
     (sym (c .before .before .before .place .given .1) ∙ c .before .before .before .before .before .find .ensures)
     (c .if1 .taken)
 
 settle-requires : tie.Need-settle-requires
 settle-requires c κs =
-    let s = c .before .before .before .before .before .before .before .before .before in
+    let s = c .before .before .before .before .before .before .before .before .before  in
     settles (s .pre .0) (s .pre .1 .0) _ (here _ _ _ _ (sym (c .before .before .before .before .before .place .given .1) ∙ c .before .before .before .before .before .before .before .find .ensures))
 
 returns-3 : tie.Need-returns-3
 returns-3 c =
-    let s = c .before .before .before .before .before .before .before .before .before .before in
-    stayed (s .pre .0) (s .pre .1 .0) (s .pre .1 .1) _ _ _
+    let s = c .before .before .before .before .before .before .before .before .before .before  in
+    stayed (s .pre .0) (s .pre .1 .0) _ _ _
     (sym (c .before .before .before .before .before .before .place .given .1) ∙ c .before .before .before .before .before .before .before .before .find .ensures)
     (c .settle .ensures .0)
     (c .settle .ensures .1)
@@ -59,6 +66,8 @@ step-spec =
     enum-told
     swap-requires
     returns
+    mul-keys
+    element-write-keys
     element-copy-out-if1
     returns-2
     settle-requires

@@ -4,45 +4,43 @@ use Prim.Native.Nat.{_-_, _≤_}
 use native.Mathlib.Omega.{arith}
 use borrow.Author.Needs.{needs}
 use Rattle.paging.specs.Sets.{listed, table}
+use Rattle.ranking.specs.Key.{key-at}
 use Rattle.slots.specs.Slots.{keys-of}
 use Rattle.slots.proofs.Loops.{PageAt, page-read, keys-next}
 use Rattle.slots.proofs.keys.Statement.{statement}
 use Rattle.slots.proofs.keys.Tie as tie
 
 abbrev Inv-loop : tie.InvT-loop
-Inv-loop priority held slots keys₀ s₀ keys s = (s ≤ slots) × (keys ≡ keys-of priority held s)
+Inv-loop pages held slots keys₀ s₀ keys s = (s ≤ slots) × (keys ≡ keys-of (key-at pages) held s)
 
 abbrev μ-loop : tie.MeasureT-loop
-μ-loop priority held slots keys₀ s₀ keys s = slots - s
+μ-loop pages held slots keys₀ s₀ keys s = slots - s
 
 loop-holds : tie.Need-loop-holds Inv-loop μ-loop
 unfolding keys-of table listed
 loop-holds c = (search needs, refl)
 
-mul-page : tie.Need-mul-page Inv-loop μ-loop
-mul-page c = search needs
+mul-keys : tie.Need-mul-keys Inv-loop μ-loop
+mul-keys c = search needs
 
-element-copy-out-page : tie.Need-element-copy-out-page Inv-loop μ-loop
-element-copy-out-page c = search needs
+element-copy-out-keys : tie.Need-element-copy-out-keys Inv-loop μ-loop
+element-copy-out-keys c = search needs
 
 -- the slot of this turn holds a page
 read : (c : tie.In-loop Inv-loop μ-loop) → PageAt (c .before .before .args .held .now) (c .before .loop .s)
 read c = page-read _ _ (c .before .before .pre .1 _ (c .loop-test .taken))
 
-cast-key : tie.Need-cast-key Inv-loop μ-loop
-cast-key c = omega (arith, read (c .before))
+cast-keys : tie.Need-cast-keys Inv-loop μ-loop
+cast-keys c = omega (arith, read (c .before))
 
-mul-key : tie.Need-mul-key Inv-loop μ-loop
-mul-key c = omega (arith, read (c .before))
+mul-keys-2 : tie.Need-mul-keys-2 Inv-loop μ-loop
+mul-keys-2 c = omega (arith, read (c .before))
 
-element-copy-out-key : tie.Need-element-copy-out-key Inv-loop μ-loop
-element-copy-out-key c = omega (arith, read (c .before))
+element-copy-out-keys-2 : tie.Need-element-copy-out-keys-2 Inv-loop μ-loop
+element-copy-out-keys-2 c = omega (arith, read (c .before))
 
-key-requires : tie.Need-key-requires Inv-loop μ-loop
-key-requires c κs = search needs
-
-mul-keys : tie.Need-mul-keys Inv-loop μ-loop
-mul-keys c = search needs
+mul-keys-3 : tie.Need-mul-keys-3 Inv-loop μ-loop
+mul-keys-3 c = search needs
 
 array-write-keys : tie.Need-array-write-keys Inv-loop μ-loop
 array-write-keys c = search needs
@@ -55,8 +53,8 @@ loop-less c = search needs
 
 loop-again : tie.Need-loop-again Inv-loop μ-loop
 loop-again c =
-    let turn = c .before .before .before in
-    (search needs, keys-next _ _ _ _ _ _ (search needs) (read turn .same) (c .key .ensures) (turn .before .loop .inv .1))
+    let turn = c .before .before in
+    (search needs, keys-next _ _ _ _ _ _ (search needs) (read turn .same) refl (turn .before .loop .inv .1))
 
 returns : tie.Need-returns Inv-loop μ-loop
 returns c = c .before .loop .inv .1 ∙ ap (keys-of _ _) (omega arith)
@@ -68,13 +66,12 @@ keys-spec =
     Inv-loop
     μ-loop
     loop-holds
-    mul-page
-    element-copy-out-page
-    cast-key
-    mul-key
-    element-copy-out-key
-    key-requires
     mul-keys
+    element-copy-out-keys
+    cast-keys
+    mul-keys-2
+    element-copy-out-keys-2
+    mul-keys-3
     array-write-keys
     add-s
     loop-less
