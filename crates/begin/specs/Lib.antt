@@ -1,5 +1,8 @@
--- The tables of a start. Read Begin; what callers want to know of its words stands in Laws. Assumes nothing.
+-- The refusals and the tables of a start. Read Limits and Begin; what callers want to know of their words stands in the others.
+-- Assumes nothing.
 pub mod Limits
 pub mod Begin
+pub mod Refusals
 pub mod LimitLaws
 pub mod Laws
+pub mod RefusalLaws

@@ -5,23 +5,25 @@ ghost use Prim.Native.Nat.{_≤_};
 ghost use lib.ListN.{length, getD};
 ghost use Rattle.paging.specs.Sets.{_=?_, any};
 ghost use Rattle.ranking.specs.Defaults.{default-priorities};
-ghost use Rattle.begin.specs.Limits.{limits-refusal};
+ghost use Rattle.begin.specs.Limits.{most-pages, most-slots, limits-refusal};
 ghost use Rattle.begin.specs.Begin.{below, different, start-layers, start-priorities, start-slots};
+ghost use Rattle.begin.specs.Refusals.{list-refusal, start-refusal};
 
-// The refusal that N and k give by themselves: 2, 3, or 0.
-pub fn limits_refusal(pages: usize, slots: usize) -> u8
+// The refusal that N and k give by themselves: 2, 3, or 0. The limits are those of the run's type, which hands them in.
+pub fn limits_refusal(pages: usize, slots: usize, pagelimit: usize, slotlimit: usize) -> u8
+    requires { ⌜ (pagelimit ≡ most-pages) × (slotlimit ≡ most-slots) ⌝ }
     ensures { λ r. ⌜ r ≡ limits-refusal pages slots ⌝ }
 {
     if pages < 1 {
         return 2;
     }
-    if 1024 < pages {
+    if pagelimit < pages {
         return 2;
     }
     if slots < 1 {
         return 3;
     }
-    if 64 < slots {
+    if slotlimit < slots {
         return 3;
     }
     if pages < slots {
@@ -31,7 +33,7 @@ pub fn limits_refusal(pages: usize, slots: usize) -> u8
 }
 
 // Each start page is below `pages`.
-pub fn all_below(list: &[u16], pages: usize) -> bool
+fn all_below(list: &[u16], pages: usize) -> bool
     ensures { λ r. ⌜ r ≡ below pages (now (list .entry)) ⌝ }
 {
     let mut i = 0;
@@ -60,7 +62,7 @@ fn stands_before(list: &[u16], n: usize, page: u16) -> bool
 }
 
 // No start page stands twice.
-pub fn all_different(list: &[u16]) -> bool
+fn all_different(list: &[u16]) -> bool
     ensures { λ r. ⌜ r ≡ different (now (list .entry)) ⌝ }
 {
     let mut i = 0;
@@ -71,6 +73,55 @@ pub fn all_different(list: &[u16]) -> bool
         i += 1;
     }
     true
+}
+
+// The first refusal of a start that its numbers and its list give: 2 to 6, or 0.
+pub fn list_refusal(
+    pages: usize,
+    slots: usize,
+    list: &[u16],
+    pagelimit: usize,
+    slotlimit: usize,
+) -> u8
+    requires { ⌜ (pagelimit ≡ most-pages) × (slotlimit ≡ most-slots) ⌝ }
+    ensures { λ r. ⌜ r ≡ list-refusal pages slots (now (list .entry)) ⌝ }
+{
+    let refusal = limits_refusal(pages, slots, pagelimit, slotlimit);
+    if refusal != 0 {
+        return refusal;
+    }
+    if list.len() != slots {
+        return 4;
+    }
+    if !all_below(list, pages) {
+        return 5;
+    }
+    if !all_different(list) {
+        return 6;
+    }
+    0
+}
+
+// The first refusal of a start with a list of so many priorities: 2 to 7, or 0.
+pub fn refusal(
+    pages: usize,
+    slots: usize,
+    list: &[u16],
+    priorities: usize,
+    pagelimit: usize,
+    slotlimit: usize,
+) -> u8
+    requires { ⌜ (pagelimit ≡ most-pages) × (slotlimit ≡ most-slots) ⌝ }
+    ensures { λ r. ⌜ r ≡ start-refusal pages slots (now (list .entry)) priorities ⌝ }
+{
+    let number = list_refusal(pages, slots, list, pagelimit, slotlimit);
+    if number != 0 {
+        return number;
+    }
+    if priorities != pages {
+        return 7;
+    }
+    0
 }
 
 // The layer of each page: i + 1 for the page at place i of the list, 0 for every other.

@@ -7,6 +7,7 @@ ghost use lib.ListN.{length, getD};
 ghost use Rattle.paging.specs.Sets.{_≤?_, listed, table};
 ghost use Rattle.words.specs.Words.{words, word-at, put};
 ghost use Rattle.slots.specs.Slots.{no-page, seated};
+ghost use Rattle.begin.specs.Limits.{most-pages, most-slots};
 ghost use Rattle.image.specs.Layout.{mark-byte, image-header, offsets-right, image-bytes, image-length, image-refusal, image-layers, image-slots, image-priorities, marks-agree};
 
 // A mark byte: the layer in bits 0 to 6, cached in bit 7.
@@ -55,8 +56,9 @@ fn offsets_right(image: &[u8]) -> bool
     number_at(image, 32) == 36 + pages + 2 * slots
 }
 
-// The refusal that the length and the header of an image give: 13, 2, 3, 15, 13, or 0.
-pub fn refusal(image: &[u8]) -> u8
+// The refusal that the length and the header of an image give: 13, 2, 3, 15, 13, or 0. The limits are the run's.
+pub fn refusal(image: &[u8], pagelimit: usize, slotlimit: usize) -> u8
+    requires { ⌜ (pagelimit ≡ most-pages) × (slotlimit ≡ most-slots) ⌝ }
     ensures { λ r. ⌜ r ≡ image-refusal (now (image .entry)) ⌝ }
 {
     let length = image.len();
@@ -65,7 +67,7 @@ pub fn refusal(image: &[u8]) -> u8
     }
     let pages = number_at(image, 0);
     let slots = number_at(image, 4);
-    let limits = begin::limits_refusal(pages, slots);
+    let limits = begin::limits_refusal(pages, slots, pagelimit, slotlimit);
     if limits != 0 {
         return limits;
     }

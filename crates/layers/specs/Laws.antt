@@ -1,18 +1,22 @@
--- What `asked` and `sunk` leave at each entry, how long they are, and what `next` is in terms of `lowered`. Assumes nothing.
+-- What `asked` and `sunk` leave at each entry, how long they are, and what `next` is in terms of `lowered`; when a page is
+-- alone in its layer. Assumes nothing.
+use mathlib.Core.Bool.{false}
 use mathlib.Core.List.{List, [], _∷_, _++_}
 use mathlib.Core.Logic.{⊎-elim}
 use mathlib.Core.Path.{_≡_, refl, ap, _∙_}
 use Prim.Native.Nat.{ℕ, zero, suc, _-_, _≤_, _<_}
 use native.Mathlib.Omega.{arith}
+use lib.Dec.{eqb}
 use lib.ListN.{length, getD, drop, List·getD-append}
 use lib.Seq.{drop-nil}
 use borrow.Author.Tests.{le-leb, lt-leb}
-use Rattle.paging.specs.Sets.{listed}
+use Rattle.paging.specs.Sets.{count, listed}
 use Rattle.paging.specs.Tests.{le-or-lt}
-use Rattle.paging.specs.Layers.{next}
+use Rattle.paging.specs.Layers.{in-layer, next}
 use Rattle.paging.specs.Moves.{bar, next-moved}
 use Rattle.paging.specs.Tables.{listed-length, listed-entry}
 use Rattle.layers.specs.Asked.{layer-at, asked, lowered, sunk}
+use Rattle.layers.specs.Seen.{alone-in}
 
 -- a list whose first n entries are replaced by these
 front-length : (n : ℕ) (f : ℕ → ℕ) (l : List ℕ) → n ≤ length l → length (listed n f ++ drop n l) ≡ length l
@@ -83,3 +87,14 @@ sunk-at from n l q h = front-at n (λ s. lowered from (getD l s 0)) (drop n l) q
 pub sunk-past : (from n : ℕ) (l : List ℕ) (q : ℕ) → n ≤ q → getD (sunk from n l) q 0 ≡ getD l q 0
 unfolding sunk
 sunk-past from n l q h = front-past n (λ s. lowered from (getD l s 0)) l q h
+
+-- ---- alone in its layer
+
+module _ (N : ℕ) (L : ℕ → ℕ) (p : ℕ) where
+  pub alone-not : L p ≡ 0 → false ≡ alone-in N L p
+  unfolding alone-in
+  alone-not z = rw (lt-leb 1 (L p) (omega arith))
+
+  pub alone-told : (n : ℕ) → (L p ≡ 0 → ⊥) → n ≡ count (in-layer L (L p)) N → eqb n 1 ≡ alone-in N L p
+  unfolding alone-in
+  alone-told n ne e = rw (le-leb 1 (L p) (omega arith), e)

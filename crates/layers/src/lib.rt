@@ -6,7 +6,7 @@ ghost use Rattle.paging.specs.Sets.{count, each, any, only, _=?_, _≤?_};
 ghost use Rattle.paging.specs.Layers.{in-layer};
 ghost use Rattle.paging.specs.Moves.{bar};
 ghost use Rattle.layers.specs.Asked.{layer-at, asked, lowered, sunk};
-ghost use Rattle.layers.specs.Seen.{seen-marks};
+ghost use Rattle.layers.specs.Seen.{seen-marks, alone-in};
 
 // The first layer that sinks when a page of layer i is requested.
 pub fn first_sinking(i: u8, slots: u8) -> u8
@@ -70,6 +70,18 @@ pub fn pages_in(layer: &[u8; 1024], pages: usize, j: u8) -> usize
         q += 1;
     }
     n as usize
+}
+
+// Whether a page is alone in its layer 1 to k.
+pub fn alone(layer: &[u8; 1024], pages: usize, page: usize) -> bool
+    requires { ⌜ (page < pages) × (pages ≤ 1024) ⌝ }
+    ensures { λ r. ⌜ r ≡ alone-in pages (layer-at (now (layer .entry))) page ⌝ }
+{
+    let j = layer[page];
+    if j == 0 {
+        return false;
+    }
+    pages_in(layer, pages, j) == 1
 }
 
 // Each page below `pages` is in a layer 0 to k: their greatest layer is.
@@ -150,15 +162,15 @@ pub fn no_layer_from(layer: &[u8; 1024], pages: usize) -> bool
     others == 0
 }
 
-// The same of the priorities.
-pub fn no_priority_from(priority: &[u16; 1024], pages: usize) -> bool
-    requires { ⌜ (pages ≤ 1024) × (length (now priority) ≡ 1024) ⌝ }
-    ensures { λ r. ⌜ r ≡ only 0 (drop pages (now (priority .entry))) ⌝ }
+// The same of a table of 16-bit numbers.
+pub fn no_number_from(numbers: &[u16; 1024], pages: usize) -> bool
+    requires { ⌜ (pages ≤ 1024) × (length (now numbers) ≡ 1024) ⌝ }
+    ensures { λ r. ⌜ r ≡ only 0 (drop pages (now (numbers .entry))) ⌝ }
 {
     let mut others: u16 = 0;
     let mut q = pages;
     while q < 1024 {
-        if priority[q] != 0 {
+        if numbers[q] != 0 {
             others += 1;
         }
         q += 1;

@@ -3,12 +3,18 @@
 ghost use mathlib.Core.Path.{_≡_};
 ghost use Prim.Native.Nat.{_<_};
 ghost use Rattle.ranking.specs.Key.{key-of, page-of, page-keys, Narrow};
+ghost use Rattle.ranking.specs.Ranks.{fixed-ranks};
 ghost use Rattle.ranking.specs.Defaults.{default-priority};
 
 // How wide a key is stands here alone, with the number that no key reaches.
 pub type Key = u32;
 
 pub const NO_KEY: Key = 4294967295;
+
+// What ranks the pages of a run.
+pub struct Ranks {
+    pub priority: [u16; 1024],
+}
 
 // Entry i is (389 * i + 71) % 1024.
 const DEFAULTS: [u16; 1024] = [
@@ -1043,6 +1049,13 @@ pub fn default_priority(page: usize) -> u16
     ensures { λ r. ⌜ r ≡ default-priority page ⌝ }
 {
     DEFAULTS[page % 1024]
+}
+
+// The ranks of a start by priorities; what a later request adds begins with 0.
+pub fn fixed(priority: [u16; 1024]) -> Ranks
+    ensures { λ r. ⌜ r ≡ fixed-ranks priority ⌝ }
+{
+    Ranks { priority }
 }
 
 // A number that is the greater, the higher a page ranks.

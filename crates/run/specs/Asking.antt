@@ -5,19 +5,21 @@ use mathlib.Core.Logic.{_⊎_, inl, inr}
 use mathlib.Core.Path.{_≡_, sym, _∙_}
 use Prim.Native.Nat.{ℕ, _≤_, _<_}
 use native.Mathlib.Omega.{arith}
-use lib.Dec.{eqb, ltb}
+use lib.Dec.{ltb}
 use lib.ListN.{replicate}
-use borrow.Author.Tests.{lt-ltb, le-ltb, ltb-true, ne-eqb, le-leb, lt-leb}
+use borrow.Author.Tests.{lt-ltb, le-ltb, ltb-true, ne-eqb}
 use Rattle.run.specs.declared.Run.{Run}
 use Rattle.run.specs.declared.LayerAnswer.{LayerAnswer}
 use Rattle.run.specs.declared.CertainAnswer.{CertainAnswer}
 use Rattle.run.specs.declared.SelectionAnswer.{SelectionAnswer}
-use Rattle.paging.specs.Sets.{count}
-use Rattle.paging.specs.Layers.{in-layer}
+use Rattle.paging.specs.Selection.{chosen}
 use Rattle.paging.specs.Tests.{truth}
+use Rattle.ranking.specs.Key.{Keyed, by-key, keyed-same}
+use Rattle.layers.specs.Seen.{alone-in}
 use Rattle.selection.specs.Marks.{marks}
+use Rattle.selection.specs.Laws.{marks-same, chosen-ranked}
 use Rattle.begin.specs.Limits.{most-pages}
-use Rattle.run.specs.Numbers.{layer}
+use Rattle.run.specs.Numbers.{layer, ranks}
 use Rattle.run.specs.Cached.{selection}
 use Rattle.run.specs.Sound.{Sound, sound}
 use Rattle.run.specs.Questions.{refusal, layer-answer, certain, certain-answer, selection-answer}
@@ -62,23 +64,13 @@ module _ (r : Run) (p : ℕ) where
     unfolding certain-answer
     certain-refused ne = rw (ne-eqb (refusal r p) 0 (λ z. ne (e ∙ z)), e)
 
-    pub certain-zero :
-        n ≡ 0 → layer r p ≡ 0 → _≡_ {A = CertainAnswer} (record { certain = false; refusal = 0 }) (certain-answer r p)
-    unfolding certain-answer certain
-    certain-zero z l =
-        let none : refusal r p ≡ 0 = sym e ∙ z in
-        rw (none, lt-leb 1 (layer r p) (omega arith))
-
     pub certain-told :
-        (c : ℕ) →
+        (c : Bool) →
         n ≡ 0 →
-        (layer r p ≡ 0 → ⊥) →
-        c ≡ count (in-layer (layer r) (layer r p)) (r .pages) →
-        _≡_ {A = CertainAnswer} (record { certain = eqb c 1; refusal = 0 }) (certain-answer r p)
-    unfolding certain-answer certain
-    certain-told c z l ec =
-        let none : refusal r p ≡ 0 = sym e ∙ z in
-        rw (none, le-leb 1 (layer r p) (omega arith), ec)
+        c ≡ alone-in (r .pages) (layer r) p →
+        _≡_ {A = CertainAnswer} (record { certain = c; refusal = 0 }) (certain-answer r p)
+    unfolding certain-answer certain alone-in
+    certain-told c z ec = let none : refusal r p ≡ 0 = sym e ∙ z in rw (none, ec)
 
 module _ (r : Run) where
   pub selection-refused :
@@ -87,9 +79,12 @@ module _ (r : Run) where
   selection-refused e = rw e
 
   pub selection-told :
-      (set : List Bool) →
+      (set : List Bool) (key : ℕ → ℕ) →
       sound r ≡ true →
-      set ≡ marks (r .pages) (selection r) →
+      Keyed (r .pages) (ranks r) key →
+      set ≡ marks (r .pages) (chosen (r .pages) (by-key key) (layer r) (r .slots)) →
       _≡_ {A = SelectionAnswer} (record { pages = set; refusal = 0 }) (selection-answer r)
   unfolding selection-answer marks
-  selection-told set e es = rw (e, es)
+  selection-told set key e keyed es =
+      let same = marks-same (r .pages) (chosen (r .pages) (by-key key) (layer r) (r .slots)) (selection r) (chosen-ranked (r .pages) (by-key key) (ranks r) (layer r) (keyed-same (r .pages) (ranks r) key keyed) (r .slots)) in
+      rw (e, es ∙ same)

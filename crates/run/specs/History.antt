@@ -4,7 +4,7 @@ use mathlib.Core.List.{List, [], _∷_, _++_}
 use mathlib.Core.Path.{_≡_}
 use Prim.Native.Nat.{ℕ, _<_}
 use Rattle.run.specs.declared.Run.{Run}
-use Rattle.run.specs.Numbers.{most-served}
+use Rattle.counts.specs.Counts.{most-served}
 use Rattle.run.specs.Start.{started}
 use Rattle.run.specs.Request.{requested}
 
@@ -24,7 +24,7 @@ first-run b = started (b .pages) (b .slots) (b .list) (b .priorities) .run
 -- (A refused request hands back its run and leaves no trace here.)
 pub data Comes-from (b : Begun) : List ℕ → Run → Type 0 where
   begins : Comes-from b [] (first-run b)
-  serves : {ps : List ℕ} {r : Run} → Comes-from b ps r → (p : ℕ) → p < r .pages → r .served < most-served → Comes-from b (ps ++ (p ∷ [])) (requested r p .run)
+  serves : {ps : List ℕ} {r : Run} → Comes-from b ps r → (p : ℕ) → p < r .pages → r .counts .served < most-served → Comes-from b (ps ++ (p ∷ [])) (requested r p .run)
 
 -- The run after some requests, served or refused, in this order.
 unfoldable pub run-after : Run → List ℕ → Run

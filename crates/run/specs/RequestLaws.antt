@@ -20,7 +20,6 @@ use Rattle.paging.specs.Tests.{clash, is, same-test, bit-le, same-or-not, le-or
 use Rattle.paging.specs.Count.{remove-in, remove-was, remove-not, insert-self, insert-in, insert-cases}
 use Rattle.paging.specs.Tables.{table-at, table-past}
 use Rattle.paging.specs.Moves.{next-zero}
-use Rattle.paging.specs.Certificate.{held}
 use Rattle.paging.specs.Update.{no-zero}
 use Rattle.paging.specs.Theorems.{layers-stay, selection-justified, hit-selection, miss-victim, victim-cached}
 use Rattle.paging.specs.Theorems.{miss-selection}
@@ -28,25 +27,16 @@ use Rattle.ranking.specs.Order.{outranks-ranking}
 use Rattle.slots.specs.Slots.{no-page, seated}
 use Rattle.slots.specs.Laws.{seated-in, seated-was, seat-some, seat-found}
 use Rattle.begin.specs.Limits.{most-pages}
-use Rattle.run.specs.Numbers.{layer, most-served, priority, in-slot, ranks}
+use Rattle.counts.specs.Counts.{most-served, more}
+use Rattle.run.specs.Numbers.{layer, priority, in-slot, ranks}
 use Rattle.run.specs.Cached.{cached, slot-of, selection, victim-of}
 use Rattle.run.specs.Sound.{Sound}
-use Rattle.run.specs.Request.{counted}
+use Rattle.run.specs.Request.{counted, next-run}
+use Rattle.run.specs.SoundLaws.{run-layered}
 
 -- ---- what a sound run is to the theory
 
 module _ (r : Run) (w : Sound r) where
-  pub run-layered : Layered (r .pages) (r .slots) 0 (layer r)
-  run-layered =
-      record {
-        few = zero-le;
-        bounded = w .layers;
-        filled = λ j a b. w .filled j a b;
-        last = λ _. w .last;
-        gap = λ q l h. h;
-        alone = λ z. absurd (omega arith);
-      }
-
   pub run-ranking : Ranking (r .pages) (ranks r)
   run-ranking = outranks-ranking (r .pages) (priority r)
 
@@ -70,7 +60,7 @@ module _ (r : Run) (w : Sound r) where
   -- a cached page is in no layer 0
   pub cached-known : (q : ℕ) → q < r .pages → q ∈ cached r → 0 < layer r q
   cached-known =
-      no-zero (r .pages) (r .slots) (layer r) (ranks r) (cached r) (selection-justified (r .pages) (r .slots) (ranks r) (layer r) run-ranking run-layered (cached r) .0 run-cached)
+      no-zero (r .pages) (r .slots) (layer r) (ranks r) (cached r) (selection-justified (r .pages) (r .slots) (ranks r) (layer r) run-ranking (run-layered r w) (cached r) .0 run-cached)
 
 -- ---- the run after a request of p
 
@@ -92,7 +82,7 @@ module _ (r : Run) (w : Sound r) (p : ℕ) (pN : p < r .pages) where
 
   -- the new table holds the new layers
   pub counted-layers : (hit miss : ℕ) (held : List ℕ) → layer (counted r p hit miss held) ≡ L′
-  unfolding counted
+  unfolding counted next-run more
   counted-layers hit miss held = fun-ext at
     where
       at : (q : ℕ) → getD (table most-pages N 0 L′) q 0 ≡ L′ q
@@ -113,12 +103,12 @@ module _ (r : Run) (w : Sound r) (p : ℕ) (pN : p < r .pages) where
   keeps :
       (hit miss : ℕ) (held : List ℕ) →
       hit + miss ≡ 1 →
-      r .served < most-served →
-      r .best + bit (eqb (layer r p) 0) ≤ r .misses + miss →
+      r .counts .served < most-served →
+      r .counts .best + bit (eqb (layer r p) 0) ≤ r .counts .misses + miss →
       Places held →
       Same N (chosen N (ranks r) L′ k) (seated held k) →
       Sound (counted r p hit miss held)
-  unfolding counted
+  unfolding counted next-run more
   keeps hit miss held one-more room best-ok seats new =
       record {
         pages = w .pages;
@@ -141,7 +131,7 @@ module _ (r : Run) (w : Sound r) (p : ℕ) (pN : p < r .pages) where
       eqL = counted-layers hit miss held
 
   -- a hit changes no slot
-  pub hit-sound : p ∈ cached r → r .served < most-served → Sound (counted r p 1 0 (r .held))
+  pub hit-sound : p ∈ cached r → r .counts .served < most-served → Sound (counted r p 1 0 (r .held))
   hit-sound e room =
       keeps
       1
@@ -153,7 +143,7 @@ module _ (r : Run) (w : Sound r) (p : ℕ) (pN : p < r .pages) where
       (record { holds = w .holds; one = w .one; empty = w .empty })
       (hit-selection N k p (ranks r) (ranks r) (layer r) (cached r) (w .slots .0) (run-ranking r w) (run-ranking r w) (λ a b la lb na nb. refl) lay pN (run-cached r w) e)
     where
-      best-ok : r .best + bit (eqb (layer r p) 0) ≤ r .misses + 0
+      best-ok : r .counts .best + bit (eqb (layer r p) 0) ≤ r .counts .misses + 0
       best-ok = rw (ne-eqb (layer r p) 0 (λ z. omega (arith, cached-known r w p pN e))) (omega (arith, w .best))
 
   -- a miss finds its victim, which is cached
@@ -252,7 +242,7 @@ module _ (r : Run) (w : Sound r) (p : ℕ) (pN : p < r .pages) where
                 q
                 (remove-in v (cached r) q (seated-in (r .held) k q t l g) (λ s. ne (w .one t at l at-slot (g ∙ (s ∙ sym at-v)))))
 
-    pub miss-sound : r .served < most-served → Sound (counted r p 0 1 fresh)
+    pub miss-sound : r .counts .served < most-served → Sound (counted r p 0 1 fresh)
     miss-sound room =
         keeps
         0

@@ -12,7 +12,7 @@ use Rattle.run.specs.declared.Run.{Run}
 use Rattle.run.specs.declared.Served.{Served}
 use Rattle.paging.specs.Sets.{_<?_, if_then_else_, unless_give_else_}
 use Rattle.paging.specs.Tests.{truth}
-use Rattle.run.specs.Numbers.{most-served}
+use Rattle.counts.specs.Counts.{most-served, page-refusal}
 use Rattle.run.specs.Sound.{Sound, sound}
 use Rattle.serve.specs.Event.{Values, values}
 use Rattle.run.specs.Cached.{cached, slot-of, victim-of}
@@ -24,14 +24,7 @@ unfoldable pub request-refusal : Run → ℕ → ℕ
 request-refusal r p =
     unless sound r give 1 else
     unless p <? r .pages give 8 else
-    unless r .served <? most-served give 9 else
-    0
-
--- The same of a run that is sound, by its numbers: 8, 9, or 0.
-unfoldable pub sound-refusal : ℕ → ℕ → ℕ → ℕ
-sound-refusal N served p =
-    unless p <? N give 8 else
-    unless served <? most-served give 9 else
+    unless r .counts .served <? most-served give 9 else
     0
 
 -- ---- the paper's values of the answer
@@ -52,7 +45,7 @@ served-values r p false = missed-values r p (victim-of r p)
 -- The values of a request's event are those that document 01 gives.
 pub requested-values : (r : Run) (p : ℕ) → values (requested r p .event) ≡ request-values r p
 unfolding requested request-values served values
-requested-values r p = go (sound r) (ltb p (r .pages)) (ltb (r .served) most-served)
+requested-values r p = go (sound r) (ltb p (r .pages)) (ltb (r .counts .served) most-served)
   where
     go :
         (a b c : Bool) →
@@ -68,64 +61,51 @@ requested-values r p = go (sound r) (ltb p (r .pages)) (ltb (r .served) most-ser
 pub with-values : (r : Run) (p : ℕ) (x : Served) → x ≡ requested r p → (x ≡ requested r p) × (values (x .event) ≡ request-values r p)
 with-values r p x e = (e, ap (λ (y : Served). values (y .event)) e ∙ requested-values r p)
 
-module _ (N count p : ℕ) where
-  pub number-page : N ≤ p → 8 ≡ sound-refusal N count p
-  unfolding sound-refusal
-  number-page h = rw (le-ltb p N h)
-
-  pub number-served : p < N → most-served ≤ count → 9 ≡ sound-refusal N count p
-  unfolding sound-refusal
-  number-served l h = rw (lt-ltb p N l, le-ltb count most-served h)
-
-  pub number-none : p < N → count < most-served → 0 ≡ sound-refusal N count p
-  unfolding sound-refusal
-  number-none l h = rw (lt-ltb p N l, lt-ltb count most-served h)
-
 module _ (r : Run) (p : ℕ) where
   pub refuse-unsound : sound r ≡ false → 1 ≡ request-refusal r p
   unfolding request-refusal
   refuse-unsound e = rw e
 
   module _ (e : sound r ≡ true) where
-    pub refusal-of-sound : (n : ℕ) → n ≡ sound-refusal (r .pages) (r .served) p → n ≡ request-refusal r p
-    unfolding sound-refusal request-refusal
+    pub refusal-of-sound : (n : ℕ) → n ≡ page-refusal (r .pages) (r .counts .served) p → n ≡ request-refusal r p
+    unfolding page-refusal request-refusal
     refusal-of-sound n h = h ∙ rw e
 
     pub refuse-page : r .pages ≤ p → 8 ≡ request-refusal r p
     unfolding request-refusal
     refuse-page h = rw (e, le-ltb p (r .pages) h)
 
-    pub refuse-served : p < r .pages → most-served ≤ r .served → 9 ≡ request-refusal r p
+    pub refuse-served : p < r .pages → most-served ≤ r .counts .served → 9 ≡ request-refusal r p
     unfolding request-refusal
-    refuse-served l h = rw (e, lt-ltb p (r .pages) l, le-ltb (r .served) most-served h)
+    refuse-served l h = rw (e, lt-ltb p (r .pages) l, le-ltb (r .counts .served) most-served h)
 
-    pub refuse-none : p < r .pages → r .served < most-served → 0 ≡ request-refusal r p
+    pub refuse-none : p < r .pages → r .counts .served < most-served → 0 ≡ request-refusal r p
     unfolding request-refusal
-    refuse-none l h = rw (e, lt-ltb p (r .pages) l, lt-ltb (r .served) most-served h)
+    refuse-none l h = rw (e, lt-ltb p (r .pages) l, lt-ltb (r .counts .served) most-served h)
 
   -- what it means that none of them applies
-  pub not-refused : request-refusal r p ≡ 0 → Sound r × (p < r .pages) × (r .served < most-served)
+  pub not-refused : request-refusal r p ≡ 0 → Sound r × (p < r .pages) × (r .counts .served < most-served)
   unfolding request-refusal
-  not-refused h = go (truth (sound r)) (truth (ltb p (r .pages))) (truth (ltb (r .served) most-served))
+  not-refused h = go (truth (sound r)) (truth (ltb p (r .pages))) (truth (ltb (r .counts .served) most-served))
     where
       Test : Bool → Type 0
       Test b = (b ≡ true) ⊎ (b ≡ false)
 
-      go : Test (sound r) → Test (ltb p (r .pages)) → Test (ltb (r .served) most-served) → Sound r × (p < r .pages) × (r .served < most-served)
+      go : Test (sound r) → Test (ltb p (r .pages)) → Test (ltb (r .counts .served) most-served) → Sound r × (p < r .pages) × (r .counts .served < most-served)
       go (inr a) b c = absurd (omega (arith, rw a at h))
       go (inl a) (inr b) c = absurd (omega (arith, rw (a, b) at h))
       go (inl a) (inl b) (inr c) = absurd (omega (arith, rw (a, b, c) at h))
-      go (inl a) (inl b) (inl c) = (sound-iff r .0 a, ltb-true p (r .pages) b, ltb-true (r .served) most-served c)
+      go (inl a) (inl b) (inl c) = (sound-iff r .0 a, ltb-true p (r .pages) b, ltb-true (r .counts .served) most-served c)
 
   pub requested-refused :
       (n : ℕ) → n ≡ request-refusal r p → (n ≡ 0 → ⊥) → _≡_ {A = Served} (record { run = r; event = Refused n; best = 0 }) (requested r p)
   unfolding request-refusal requested
-  requested-refused n e ne = go (truth (sound r)) (truth (ltb p (r .pages))) (truth (ltb (r .served) most-served))
+  requested-refused n e ne = go (truth (sound r)) (truth (ltb p (r .pages))) (truth (ltb (r .counts .served) most-served))
     where
       Test : Bool → Type 0
       Test b = (b ≡ true) ⊎ (b ≡ false)
 
-      go : Test (sound r) → Test (ltb p (r .pages)) → Test (ltb (r .served) most-served) → _≡_ {A = Served} (record { run = r; event = Refused n; best = 0 }) (requested r p)
+      go : Test (sound r) → Test (ltb p (r .pages)) → Test (ltb (r .counts .served) most-served) → _≡_ {A = Served} (record { run = r; event = Refused n; best = 0 }) (requested r p)
       go (inr a) b c = rw (e, a)
       go (inl a) (inr b) c = rw (e, a, b)
       go (inl a) (inl b) (inr c) = rw (e, a, b, c)
@@ -135,4 +115,4 @@ module _ (r : Run) (p : ℕ) where
   unfolding requested
   requested-served z =
       let (w, l, room) = not-refused z in
-      rw (sound-iff r .1 w, lt-ltb p (r .pages) l, lt-ltb (r .served) most-served room)
+      rw (sound-iff r .1 w, lt-ltb p (r .pages) l, lt-ltb (r .counts .served) most-served room)

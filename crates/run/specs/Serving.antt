@@ -1,99 +1,75 @@
 -- A request as the code takes it: the step's event and tables, and the counts by the kind of event. Assumes nothing.
 use mathlib.Core.List.{List}
 use mathlib.Core.Logic.{⊎-elim}
-use mathlib.Core.Option.{Option, none, some}
-use mathlib.Core.Path.{_≡_, refl, sym, _∙_}
-use Prim.Native.Nat.{ℕ, _+_, _%_, _≤_, _<_}
+use mathlib.Core.Option.{Option, none, some, Option·none-ne-some}
+use mathlib.Core.Path.{Path, _≡_, refl, sym, _∙_}
+use Prim.Native.Nat.{ℕ, _%_, _≤_, _<_}
 use native.Mathlib.Nat.{mod-eq-of-lt}
 use native.Mathlib.Omega.{arith}
 use lib.Dec.{eqb}
 use lib.ListN.{length, getD}
 use lib.Seq.{ext-getD}
 use Rattle.serve.specs.declared.Event.{Event}
-use Rattle.serve.specs.declared.Event.the-variants.{Hit, Miss, Refused}
+use Rattle.serve.specs.declared.Event.the-variants.{Hit}
 use Rattle.run.specs.declared.Run.{Run}
 use Rattle.run.specs.declared.Served.{Served}
 use Rattle.paging.specs.Sets.{bit, table}
 use Rattle.paging.specs.Layers.{next}
-use Rattle.paging.specs.Tests.{truth, bit-le, le-or-lt}
+use Rattle.paging.specs.Tests.{truth, le-or-lt}
 use Rattle.paging.specs.Tables.{table-length, table-at, table-past}
-use Rattle.paging.specs.Certificate.{held}
 use Rattle.layers.specs.Asked.{asked}
 use Rattle.layers.specs.Laws.{asked-length, asked-at, asked-past}
 use Rattle.begin.specs.Limits.{most-pages}
-use Rattle.serve.specs.Step.{Ready, missed, replaced, event-of, held-after, Stepped}
-use Rattle.run.specs.Numbers.{layer, most-served, in-slot}
-use Rattle.run.specs.Cached.{cached, victim-of}
+use Rattle.ranking.specs.Key.{Keyed, Narrow, key-at, page-keys, ranks-keyed}
+use Rattle.slots.specs.Slots.{keys-of}
+use Rattle.serve.specs.Step.{Ready, Ranked, Steps, missed, replaced, event-of, held-after}
+use Rattle.counts.specs.declared.Turn.{Turn}
+use Rattle.counts.specs.Counts.{more, turned}
+use Rattle.run.specs.Numbers.{layer, in-slot, ranks}
+use Rattle.run.specs.Cached.{cached, slot-of, victim-of}
 use Rattle.run.specs.Sound.{Sound}
-use Rattle.run.specs.Request.{served, counted, answer, refused, with-hit, with-miss}
-use Rattle.run.specs.RequestLaws.{run-layered, run-cached}
+use Rattle.run.specs.Request.{served, counted, next-run, with-hit, with-miss}
+use Rattle.run.specs.SoundLaws.{run-layered}
+use Rattle.run.specs.RequestLaws.{run-cached, victim-there}
 
--- The run with other tables, and counts added.
-unfoldable pub with-counts : Run → List ℕ → List ℕ → ℕ → ℕ → ℕ → Run
-with-counts r layer held hit miss new =
-    record {
-      pages = r .pages;
-      slots = r .slots;
-      served = r .served + 1;
-      hits = r .hits + hit;
-      misses = r .misses + miss;
-      best = r .best + new;
-      layer = layer;
-      priority = r .priority;
-      held = held;
-    }
-
--- The answer of a request, from its event and the tables after it; `new` is 1 for a page of L_0.
-unfoldable pub answered : Run → ℕ → Event → List ℕ → List ℕ → Served
-answered r new (Hit s) layer held = answer (with-counts r layer held 1 0 new) (Hit s)
-answered r new (Miss s v) layer held = answer (with-counts r layer held 0 1 new) (Miss s v)
-answered r new (Refused n) layer held = refused r n
-
--- the run as the code counts it, on a hit and on a miss
-module _ (r : Run) (new : ℕ) (e : Event) (layer held : List ℕ) where
-  abbrev counted-run : ℕ → ℕ → Run
-  counted-run hits misses =
-      record {
-        pages = r .pages;
-        slots = r .slots;
-        served = r .served + 1;
-        hits = hits;
-        misses = misses;
-        best = r .best + new;
-        layer = layer;
-        priority = r .priority;
-        held = held;
-      }
-
-  pub hit-answered : (s : ℕ) → e ≡ Hit s → answer (counted-run (r .hits + 1) (r .misses)) (Hit s) ≡ answered r new e layer held
-  unfolding answered with-counts
-  hit-answered s h = let none : r .misses + 0 ≡ r .misses = omega arith in rw (h, none)
-
-  pub miss-answered :
-      (s v : ℕ) → e ≡ Miss s v → answer (counted-run (r .hits) (r .misses + 1)) (Miss s v) ≡ answered r new e layer held
-  unfolding answered with-counts
-  miss-answered s v h = let none : r .hits + 0 ≡ r .hits = omega arith in rw (h, none)
+-- The answer of a request, from what it comes to and the tables after it.
+abbrev pub answered : Run → Turn → List ℕ → List ℕ → Served
+answered r t layer held = record { run = next-run r (t .counts) layer held; event = t .event; best = t .best }
 
 module _ (r : Run) (p : ℕ) where
-  abbrev pub event : Event
-  event = event-of (r .pages) (r .slots) p (r .layer) (r .priority) (r .held)
-
-  abbrev pub held-next : List ℕ
-  held-next = held-after (r .pages) (r .slots) p (r .layer) (r .priority) (r .held)
-
-  abbrev pub layers-next : List ℕ
+  abbrev layers-next : List ℕ
   layers-next = table most-pages (r .pages) 0 (next (r .slots) p (layer r))
 
-  -- it is document 01's
-  pub served-answered : served r p ≡ answered r (bit (eqb (layer r p) 0)) event layers-next held-next
-  unfolding served with-hit with-miss counted answered with-counts event-of held-after missed replaced
-  served-answered = ⊎-elim (λ e. rw e) (λ e. rw e (missed-answered (victim-of r p))) (truth (cached r p))
+  abbrev new : ℕ
+  new = bit (eqb (layer r p) 0)
+
+  abbrev event : Event
+  event = event-of (r .pages) (r .slots) p (ranks r) (r .layer) (r .held)
+
+  abbrev held-next : List ℕ
+  held-next = held-after (r .pages) (r .slots) p (ranks r) (r .layer) (r .held)
+
+  -- what the step comes to is document 01's answer: a miss of a sound run has its victim
+  missed-answered :
+      (x : Option ℕ) (v : ℕ) →
+      Path (Option ℕ) x (some v) →
+      answered r (turned (r .counts) new (missed (r .held) (r .slots) x)) layers-next (replaced (r .held) (r .slots) p x) ≡ with-miss r p x
+  unfolding with-miss counted turned more next-run missed replaced
+  missed-answered none v is = absurd (Option·none-ne-some v is)
+  missed-answered (some u) v is = refl
+
+  hit-answered : answered r (turned (r .counts) new (Hit (slot-of r p))) layers-next (r .held) ≡ with-hit r p
+  unfolding with-hit counted turned more next-run
+  hit-answered = refl
+
+  served-answered : Sound r → p < r .pages → answered r (turned (r .counts) new event) layers-next held-next ≡ served r p
+  unfolding served event-of held-after
+  served-answered w pN = ⊎-elim (λ e. rw e hit-answered) (λ e. rw e miss) (truth (cached r p))
     where
-      missed-answered :
-          (x : Option ℕ) →
-          with-miss r p x ≡ answered r (bit (eqb (layer r p) 0)) (missed (r .held) (r .slots) x) layers-next (replaced (r .held) (r .slots) p x)
-      missed-answered none = refl
-      missed-answered (some v) = refl
+      miss :
+          answered r (turned (r .counts) new (missed (r .held) (r .slots) (victim-of r p))) layers-next (replaced (r .held) (r .slots) p (victim-of r p))
+          ≡ with-miss r p (victim-of r p)
+      miss = let (v, is) = victim-there r w p pN in missed-answered (victim-of r p) v is
 
   -- the table that the step leaves is that of the rule
   pub layers-asked :
@@ -124,31 +100,59 @@ pub run-ready :
     p < r .pages →
     length (r .layer) ≡ 1024 →
     length (r .held) ≡ 64 →
-    Ready (r .pages) (r .slots) p (r .layer) (r .priority) (r .held)
+    Ready (r .pages) (r .slots) p (r .layer) (r .held)
 run-ready r p w pN long seats =
     record {
       pages = w .pages .1;
       slots = (w .slots .0, w .slots .1);
       page = pN;
       layered = run-layered r w;
-      cached = run-cached r w;
       holds = w .holds;
       one = w .one;
       long = (long, seats);
     }
 
+-- Keys of the run's pages, as the code makes them: `keys` has them all, and its ranks are as narrow as they have to be.
+pub record RunKeys (r : Run) (keys : List ℕ) : Type 0 where
+  pub table : keys ≡ page-keys (r .ranks .priority)
+  pub narrow : Narrow (r .ranks .priority)
+
+-- they stand for its ranking
+pub run-keyed : (r : Run) (keys : List ℕ) → r .pages ≤ 1024 → RunKeys r keys → Keyed (r .pages) (ranks r) (key-at keys)
+run-keyed r keys le w = rw (w .table) (ranks-keyed (r .ranks .priority) (r .pages) le (w .narrow))
+
+-- so that the step is told of it: the requested page keeps its key
+pub run-ranked :
+    (r : Run) (p : ℕ) (keys seats : List ℕ) (new : ℕ) →
+    Sound r →
+    RunKeys r keys →
+    seats ≡ keys-of (key-at keys) (r .held) (r .slots) →
+    new ≡ key-at keys p →
+    Ranked (r .pages) (r .slots) p (ranks r) (key-at keys) (key-at keys) (r .layer) (r .held) seats new
+run-ranked r p keys seats new w k es en =
+    record {
+      keyed = run-keyed r keys (w .pages .1) k;
+      cached = run-cached r w;
+      keys-are = es;
+      others = λ q ne. refl;
+      own = sym en;
+    }
+
 -- what the code answers, from what the step ensures
-pub serve-answer :
-    (r : Run) (p new : ℕ) (e : Event) (layer′ held′ near′ keys′ : List ℕ) (out : Served) →
+pub step-taken :
+    (r : Run) (p new key : ℕ) (keys seats : List ℕ) (e : Event) (t : Turn) (layer′ held′ near′ keys′ : List ℕ) →
     Sound r →
     p < r .pages →
+    RunKeys r keys →
+    seats ≡ keys-of (key-at keys) (r .held) (r .slots) →
+    key ≡ key-at keys p →
     new ≡ bit (eqb (layer r p) 0) →
-    Stepped (r .pages) (r .slots) p (r .layer) (r .priority) (r .held) e layer′ held′ near′ keys′ →
-    out ≡ answered r new e layer′ held′ →
-    out ≡ served r p
-serve-answer r p new e layer′ held′ near′ keys′ out w pN en st eo =
-    eo
-    ∙ (rw (en, st .event-is, st .layer-is ∙ layers-asked r p w pN (st .long), st .held-is) (sym (served-answered r p)))
+    Steps (r .pages) (r .slots) p (r .layer) (r .held) seats key e layer′ held′ near′ keys′ →
+    t ≡ turned (r .counts) new e →
+    answered r t layer′ held′ ≡ served r p
+step-taken r p new key keys seats e t layer′ held′ near′ keys′ w pN k es ek en steps et =
+    let st = steps (ranks r) (key-at keys) (key-at keys) (run-ranked r p keys seats key w k es ek) in
+    rw (et, en, st .event-is, st .layer-is ∙ layers-asked r p w pN (st .long), st .held-is) (served-answered r p w pN)
 
 -- ---- the numbers as the step takes them
 
@@ -160,16 +164,3 @@ page-short r p w pN = mod-eq-of-lt (omega (arith, w .pages .1))
 
 pub slots-hold : (r : Run) → Sound r → (r .slots ≤ 64) × ((s : ℕ) → s < r .slots → in-slot r s < 1024)
 slots-hold r w = (w .slots .1, λ s l. omega (arith, w .holds s l, w .pages .1))
-
--- no count is at its end
-pub counts-fit :
-    (r : Run) (new layer : ℕ) →
-    Sound r →
-    r .served < most-served →
-    new ≡ bit (eqb layer 0) →
-    (r .served + 1 ≤ 4294967295) × (r .hits + 1 ≤ 4294967295) × (r .misses + 1 ≤ 4294967295) × (r .best + 1 ≤ 4294967295) × (new ≤ 1)
-counts-fit r new layer w room e =
-    let c = w .counts in
-    let b = w .best in
-    let small = bit-le (eqb layer 0) in
-    (omega arith, omega arith, omega arith, omega arith, omega arith)

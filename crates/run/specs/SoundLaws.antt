@@ -1,156 +1,161 @@
--- The record `Sound` and the test `sound` agree. Assumes nothing.
+-- The record `Sound` and the test `sound` agree, by the laws of their parts: limits, counts, ranks and tables. Assumes nothing.
 use mathlib.Core.Bool.{Bool, true, _&&_, Bool·beq}
 use mathlib.Core.Logic.{_↔_}
-use mathlib.Core.Path.{_≡_}
-use Prim.Native.Nat.{ℕ, suc, _+_, _≤_, _<_}
+use mathlib.Core.Path.{_≡_, sym}
+use Prim.Native.Nat.{ℕ, _≤_}
 use native.Mathlib.Omega.{arith}
-use lib.Dec.{eqb, leb, ltb}
 use lib.ListN.{drop}
-use Rattle.run.specs.declared.Run.{Run}
-use borrow.Author.Tests.{eqb-true, eq-eqb, leb-true, le-leb, ltb-true, lt-ltb}
-use Rattle.paging.specs.Sets.{_⇒_, count, each, any, only}
-use Rattle.paging.specs.Layers.{in-layer}
-use Rattle.paging.specs.Tests.{and-left, and-right, implies-true, implies-in, beq-true, beq-in, before}
-use Rattle.paging.specs.Words.{each-true, each-in, any-true, any-in, only-true, only-in}
+use Rattle.paging.specs.Sets.{Pages, each, only}
+use Rattle.paging.specs.Layers.{Layered}
+use Rattle.paging.specs.Tests.{and-in, and-left, and-right, beq-true, beq-in}
+use Rattle.paging.specs.Words.{each-true, each-in, only-true, only-in}
+use Rattle.ranking.specs.Ranks.{ranks-clear}
 use Rattle.slots.specs.Slots.{no-page}
 use Rattle.begin.specs.Limits.{pages-fit, slots-fit}
-use Rattle.begin.specs.LimitLaws.{fit-pages, fit-slots, pages-within, slots-within}
-use Rattle.run.specs.Numbers.{layer, most-served, in-slot}
+use Rattle.begin.specs.LimitLaws.{Limits, fit-pages, fit-slots, pages-within, slots-within}
+use Rattle.certify.specs.Test.{layers-fit, ends-clear}
+use Rattle.certify.specs.Tables.{seats-fit, tables-sound}
+use Rattle.certify.specs.Laws.{Clauses, sound-parts, parts-sound, sound-clauses, clauses-sound}
+use Rattle.counts.specs.Counts.{counts-fit}
+use Rattle.counts.specs.Laws.{Fit, fit-iff}
+use Rattle.run.specs.declared.Run.{Run}
+use Rattle.run.specs.Numbers.{layer, ranks}
 use Rattle.run.specs.Cached.{cached, selection}
 use Rattle.run.specs.Sound.{Sound, sound}
 
--- the fourteen clauses of the test, in its order
 module _ (r : Run) where
-  abbrev c1 : Bool
-  c1 = pages-fit (r .pages)
+  -- the groups of the test, in its order
+  abbrev limits : Bool
+  limits = pages-fit (r .pages) && slots-fit (r .pages) (r .slots)
 
-  abbrev c2 : Bool
-  c2 = slots-fit (r .pages) (r .slots)
+  abbrev layers : Bool
+  layers = layers-fit (r .pages) (r .slots) (r .layer)
 
-  abbrev c3 : Bool
-  c3 = each (r .pages) (λ q. leb (layer r q) (r .slots))
+  abbrev same : Pages
+  same q = Bool·beq (cached r q) (selection r q)
 
-  abbrev c4 : Bool
-  c4 = each (r .slots) (λ j. any (r .pages) (in-layer (layer r) (suc j)))
+  abbrev chosen : Bool
+  chosen = each (r .pages) same
 
-  abbrev c5 : Bool
-  c5 = eqb (count (in-layer (layer r) (r .slots)) (r .pages)) 1
+  abbrev seats : Bool
+  seats = seats-fit (r .pages) (r .slots) (r .held)
 
-  abbrev c6 : Bool
-  c6 = each (r .pages) (λ q. Bool·beq (cached r q) (selection r q))
+  abbrev counts : Bool
+  counts = counts-fit (r .counts)
 
-  abbrev c7 : Bool
-  c7 = each (r .slots) (λ s. ltb (in-slot r s) (r .pages))
+  abbrev no-layer : Bool
+  no-layer = only 0 (drop (r .pages) (r .layer))
 
-  abbrev c8 : Bool
-  c8 = each (r .slots) (λ s. each (r .slots) (λ t. eqb (in-slot r s) (in-slot r t) ⇒ eqb s t))
+  abbrev no-rank : Bool
+  no-rank = ranks-clear (r .pages) (r .ranks)
 
-  abbrev c9 : Bool
-  c9 = eqb (r .hits + r .misses) (r .served)
+  abbrev no-seat : Bool
+  no-seat = only no-page (drop (r .slots) (r .held))
 
-  abbrev c10 : Bool
-  c10 = leb (r .served) most-served
+  abbrev tables : Bool
+  tables = tables-sound (r .pages) (r .slots) (ranks r) (r .layer) (r .held)
 
-  abbrev c11 : Bool
-  c11 = leb (r .best) (r .misses)
+  -- The parts of the test as the code makes them.
+  pub record Parts : Type 0 where
+    pub limits-fit : Limits (r .pages) (r .slots)
+    pub counts-are : counts-fit (r .counts) ≡ true
+    pub ranks-end : ranks-clear (r .pages) (r .ranks) ≡ true
+    pub tables-are : tables-sound (r .pages) (r .slots) (ranks r) (r .layer) (r .held) ≡ true
 
-  abbrev c12 : Bool
-  c12 = only 0 (drop (r .pages) (r .layer))
+  pub test-parts : sound r ≡ true → Parts
+  unfolding sound layers-fit seats-fit counts-fit ends-clear
+  test-parts e =
+      let ends = and-right (limits && layers && chosen && seats && counts) (no-layer && no-rank && no-seat) e in
+      let to-counts = and-left (limits && layers && chosen && seats && counts) (no-layer && no-rank && no-seat) e in
+      let to-seats = and-left (limits && layers && chosen && seats) counts to-counts in
+      let to-chosen = and-left (limits && layers && chosen) seats to-seats in
+      let to-layers = and-left (limits && layers) chosen to-chosen in
+      let fit = and-left limits layers to-layers in
+      let p = fit-pages (r .pages) (and-left (pages-fit (r .pages)) (slots-fit (r .pages) (r .slots)) fit) in
+      let s = fit-slots (r .pages) (r .slots) (and-right (pages-fit (r .pages)) (slots-fit (r .pages) (r .slots)) fit) in
+      record {
+        limits-fit = (p .0, p .1, s .0, s .1, s .2);
+        counts-are = and-right (limits && layers && chosen && seats) counts to-counts;
+        ranks-end = and-right no-layer no-rank (and-left (no-layer && no-rank) no-seat ends);
+        tables-are =
+            parts-sound (r .pages) (r .slots) (ranks r) (r .layer) (r .held)
+            (record {
+              layers = and-right limits layers to-layers;
+              seats = and-right (limits && layers && chosen) seats to-seats;
+              selected = λ q l. sym (beq-true (cached r q) (selection r q) (each-true (r .pages) same (and-right (limits && layers) chosen to-chosen) q l));
+              ends = and-in no-layer no-seat (and-left no-layer no-rank (and-left (no-layer && no-rank) no-seat ends)) (and-right (no-layer && no-rank) no-seat ends);
+            });
+      }
 
-  abbrev c13 : Bool
-  c13 = only 0 (drop (r .pages) (r .priority))
+  pub parts-test : Parts → sound r ≡ true
+  unfolding sound layers-fit seats-fit counts-fit ends-clear
+  parts-test w =
+      let t = sound-parts (r .pages) (r .slots) (ranks r) (r .layer) (r .held) (w .tables-are) in
+      let l = w .limits-fit in
+      let fit = and-in (pages-fit (r .pages)) (slots-fit (r .pages) (r .slots)) (pages-within (r .pages) (l .0) (l .1)) (slots-within (r .pages) (r .slots) (l .2) (l .3) (l .4)) in
+      let is = each-in (r .pages) same (λ q lq. beq-in (cached r q) (selection r q) (sym (t .selected q lq))) in
+      let to-chosen = and-in (limits && layers) chosen (and-in limits layers fit (t .layers)) is in
+      let to-seats = and-in (limits && layers && chosen) seats to-chosen (t .seats) in
+      let to-counts = and-in (limits && layers && chosen && seats) counts to-seats (w .counts-are) in
+      let ends = and-in (no-layer && no-rank) no-seat (and-in no-layer no-rank (and-left no-layer no-seat (t .ends)) (w .ranks-end)) (and-right no-layer no-seat (t .ends)) in
+      and-in (limits && layers && chosen && seats && counts) (no-layer && no-rank && no-seat) to-counts ends
 
-  abbrev c14 : Bool
-  c14 = only no-page (drop (r .slots) (r .held))
+  facts : Parts → Sound r
+  facts w =
+      let l = w .limits-fit in
+      let f = fit-iff (r .counts) .0 (w .counts-are) in
+      let c = sound-clauses (r .pages) (r .slots) (ranks r) (r .layer) (r .held) (w .tables-are) in
+      record {
+        pages = (l .0, l .1);
+        slots = (l .2, l .3, l .4);
+        layers = c .layered .bounded;
+        filled = λ j a b. c .layered .filled j a b;
+        last = c .layered .last (l .2);
+        chosen = λ q lq. sym (c .selected q lq);
+        holds = c .below;
+        one = c .differ;
+        counts = f .sum;
+        served = f .few;
+        best = f .least;
+        no-layer = c .no-layer;
+        no-priority = only-true 0 (r .pages) (r .ranks .priority) (w .ranks-end);
+        empty = c .no-seat;
+      }
 
-  abbrev Clauses : Type 0
-  Clauses =
-      (c1 ≡ true) × (c2 ≡ true) × (c3 ≡ true) × (c4 ≡ true) × (c5 ≡ true) × (c6 ≡ true) × (c7 ≡ true) × (c8 ≡ true) × (c9 ≡ true) × (c10 ≡ true) × (c11 ≡ true) × (c12 ≡ true) × (c13 ≡ true) × (c14 ≡ true)
+  -- what a sound run is to the theory
+  pub run-layered : Sound r → Layered (r .pages) (r .slots) 0 (layer r)
+  run-layered w =
+      record {
+        few = omega arith;
+        bounded = w .layers;
+        filled = λ j a b. w .filled j a b;
+        last = λ _. w .last;
+        gap = λ q l h. h;
+        alone = λ z. absurd (omega arith);
+      }
 
-unpack : (a b c d e f g h i j k l m n : Bool) → a && b && c && d && e && f && g && h && i && j && k && l && m && n ≡ true →
-    (a ≡ true) × (b ≡ true) × (c ≡ true) × (d ≡ true) × (e ≡ true) × (f ≡ true) × (g ≡ true) × (h ≡ true) × (i ≡ true) × (j ≡ true) × (k ≡ true) × (l ≡ true) × (m ≡ true) × (n ≡ true)
-unpack a b c d e f g h i j k l m n p =
-    let p13 = and-left (a && b && c && d && e && f && g && h && i && j && k && l && m) n p in
-    let p12 = and-left (a && b && c && d && e && f && g && h && i && j && k && l) m p13 in
-    let p11 = and-left (a && b && c && d && e && f && g && h && i && j && k) l p12 in
-    let p10 = and-left (a && b && c && d && e && f && g && h && i && j) k p11 in
-    let p9 = and-left (a && b && c && d && e && f && g && h && i) j p10 in
-    let p8 = and-left (a && b && c && d && e && f && g && h) i p9 in
-    let p7 = and-left (a && b && c && d && e && f && g) h p8 in
-    let p6 = and-left (a && b && c && d && e && f) g p7 in
-    let p5 = and-left (a && b && c && d && e) f p6 in
-    let p4 = and-left (a && b && c && d) e p5 in
-    let p3 = and-left (a && b && c) d p4 in
-    let p2 = and-left (a && b) c p3 in
-    (and-left a b p2, and-right a b p2, and-right (a && b) c p3, and-right (a && b && c) d p4, and-right (a && b && c && d) e p5, and-right (a && b && c && d && e) f p6, and-right (a && b && c && d && e && f) g p7, and-right (a && b && c && d && e && f && g) h p8, and-right (a && b && c && d && e && f && g && h) i p9, and-right (a && b && c && d && e && f && g && h && i) j p10, and-right (a && b && c && d && e && f && g && h && i && j) k p11, and-right (a && b && c && d && e && f && g && h && i && j && k) l p12, and-right (a && b && c && d && e && f && g && h && i && j && k && l) m p13, and-right (a && b && c && d && e && f && g && h && i && j && k && l && m) n p)
+  -- and its counts
+  pub run-counts : Sound r → Fit (r .counts)
+  run-counts w = record { sum = w .counts; few = w .served; least = w .best }
 
-clauses : (r : Run) → sound r ≡ true → Clauses r
-unfolding sound
-clauses r e = unpack (c1 r) (c2 r) (c3 r) (c4 r) (c5 r) (c6 r) (c7 r) (c8 r) (c9 r) (c10 r) (c11 r) (c12 r) (c13 r) (c14 r) e
+  test : Sound r → Parts
+  test w =
+      record {
+        limits-fit = (w .pages .0, w .pages .1, w .slots .0, w .slots .1, w .slots .2);
+        counts-are = fit-iff (r .counts) .1 (run-counts w);
+        ranks-end = only-in 0 (r .pages) (r .ranks .priority) (w .no-priority);
+        tables-are =
+            clauses-sound (r .pages) (r .slots) (ranks r) (r .layer) (r .held) (w .slots .0)
+            (record {
+              layered = run-layered w;
+              below = w .holds;
+              differ = w .one;
+              selected = λ q l. sym (w .chosen q l);
+              no-layer = w .no-layer;
+              no-seat = w .empty;
+            });
+      }
 
-tested : (r : Run) → Clauses r → sound r ≡ true
-unfolding sound
-tested r t = rw (t .0, t .1, t .2, t .3, t .4, t .5, t .6, t .7, t .8, t .9, t .10, t .11, t .12, t .13)
-
-facts : (r : Run) → Clauses r → Sound r
-facts r t =
-    record {
-      pages = fit-pages (r .pages) (t .0);
-      slots = fit-slots (r .pages) (r .slots) (t .1);
-      layers = λ q l. leb-true (layer r q) (r .slots) (each-true (r .pages) (λ q. leb (layer r q) (r .slots)) (t .2) q l);
-      filled = fill;
-      last = eqb-true (count (in-layer (layer r) (r .slots)) (r .pages)) 1 (t .4);
-      chosen = λ q l. beq-true (cached r q) (selection r q) (each-true (r .pages) (λ q. Bool·beq (cached r q) (selection r q)) (t .5) q l);
-      holds = λ s l. ltb-true (in-slot r s) (r .pages) (each-true (r .slots) (λ s. ltb (in-slot r s) (r .pages)) (t .6) s l);
-      one = alone;
-      counts = eqb-true (r .hits + r .misses) (r .served) (t .8);
-      served = leb-true (r .served) most-served (t .9);
-      best = leb-true (r .best) (r .misses) (t .10);
-      no-layer = λ q l. only-true 0 (r .pages) (r .layer) (t .11) q l;
-      no-priority = λ q l. only-true 0 (r .pages) (r .priority) (t .12) q l;
-      empty = λ s l. only-true no-page (r .slots) (r .held) (t .13) s l;
-    }
-  where
-    fill : (j : ℕ) → 1 ≤ j → j ≤ r .slots → (q : ℕ) × (q < r .pages) × (layer r q ≡ j)
-    fill j a b =
-        let (i, e) = before j a in
-        let h = each-true (r .slots) (λ j. any (r .pages) (in-layer (layer r) (suc j))) (t .3) i (omega arith) in
-        let (q, l, u) = any-true (r .pages) (in-layer (layer r) (suc i)) h in
-        (q, l, omega (arith, eqb-true (layer r q) (suc i) u))
-
-    alone : (s u : ℕ) → s < r .slots → u < r .slots → in-slot r s ≡ in-slot r u → s ≡ u
-    alone s u ls lu e =
-        let h = each-true (r .slots) (λ s. each (r .slots) (λ t. eqb (in-slot r s) (in-slot r t) ⇒ eqb s t)) (t .7) s ls in
-        let g = each-true (r .slots) (λ t. eqb (in-slot r s) (in-slot r t) ⇒ eqb s t) h u lu in
-        eqb-true s u (implies-true (eqb (in-slot r s) (in-slot r u)) (eqb s u) g (eq-eqb (in-slot r s) (in-slot r u) e))
-
-test : (r : Run) → Sound r → Clauses r
-test r w = (
-  pages-within (r .pages) (w .pages .0) (w .pages .1),
-  slots-within (r .pages) (r .slots) (w .slots .0) (w .slots .1) (w .slots .2),
-  each-in (r .pages) (λ q. leb (layer r q) (r .slots)) (λ q l. le-leb (layer r q) (r .slots) (w .layers q l)),
-  each-in (r .slots) (λ j. any (r .pages) (in-layer (layer r) (suc j))) fill,
-  eq-eqb (count (in-layer (layer r) (r .slots)) (r .pages)) 1 (w .last),
-  each-in (r .pages) (λ q. Bool·beq (cached r q) (selection r q)) (λ q l. beq-in (cached r q) (selection r q) (w .chosen q l)),
-  each-in (r .slots) (λ s. ltb (in-slot r s) (r .pages)) (λ s l. lt-ltb (in-slot r s) (r .pages) (w .holds s l)),
-  each-in (r .slots) (λ s. each (r .slots) (λ t. eqb (in-slot r s) (in-slot r t) ⇒ eqb s t)) alone,
-  eq-eqb (r .hits + r .misses) (r .served) (w .counts),
-  le-leb (r .served) most-served (w .served),
-  le-leb (r .best) (r .misses) (w .best),
-  only-in 0 (r .pages) (r .layer) (w .no-layer),
-  only-in 0 (r .pages) (r .priority) (w .no-priority),
-  only-in no-page (r .slots) (r .held) (w .empty),
-)
-  where
-    fill : (j : ℕ) → j < r .slots → any (r .pages) (in-layer (layer r) (suc j)) ≡ true
-    fill j l =
-        let (q, lq, e) = w .filled (suc j) (omega arith) l in
-        any-in (r .pages) (in-layer (layer r) (suc j)) q lq (eq-eqb (layer r q) (suc j) e)
-
-    alone : (s : ℕ) → s < r .slots → each (r .slots) (λ t. eqb (in-slot r s) (in-slot r t) ⇒ eqb s t) ≡ true
-    alone s ls =
-        each-in (r .slots) (λ t. eqb (in-slot r s) (in-slot r t) ⇒ eqb s t) (λ u lu. implies-in (eqb (in-slot r s) (in-slot r u)) (eqb s u) (λ e. eq-eqb s u (w .one s u ls lu (eqb-true (in-slot r s) (in-slot r u) e))))
-
--- the test says what the record says
-pub sound-iff : (r : Run) → (sound r ≡ true) ↔ Sound r
-sound-iff r = (λ e. facts r (clauses r e), λ w. tested r (test r w))
+  -- the test says what the record says
+  pub sound-iff : (sound r ≡ true) ↔ Sound r
+  sound-iff = (λ e. facts (test-parts e), λ w. parts-test (test w))

@@ -5,25 +5,29 @@ use lib.ListN.{length}
 use Rattle.run.specs.declared.Run.{Run}
 use Rattle.run.specs.declared.Started.{Started}
 use Rattle.paging.specs.Sets.{_=?_, unless_give_else_}
+use Rattle.ranking.specs.declared.Ranks.{Ranks}
+use Rattle.ranking.specs.Ranks.{fixed-ranks}
 use Rattle.ranking.specs.Defaults.{default-priorities}
 use Rattle.begin.specs.Limits.{pages-fit, slots-fit}
 use Rattle.begin.specs.Begin.{below, different, start-layers, start-priorities, start-slots}
+use Rattle.counts.specs.Counts.{no-counts}
 use Rattle.run.specs.Numbers.{blank-run}
 
 -- L_i = {p_i}; L_0 holds every other page. Page p_i goes into slot i-1. All counts are 0.
-unfoldable pub start-run : ℕ → ℕ → List ℕ → List ℕ → Run
-start-run N k ps priorities =
+unfoldable pub start-run : ℕ → ℕ → List ℕ → Ranks → Run
+start-run N k ps ranks =
     record {
       pages = N;
       slots = k;
-      served = 0;
-      hits = 0;
-      misses = 0;
-      best = 0;
+      counts = no-counts;
       layer = start-layers N ps;
-      priority = start-priorities N priorities;
+      ranks = ranks;
       held = start-slots k ps;
     }
+
+-- The same with a priority for each page.
+abbrev pub listed-run : ℕ → ℕ → List ℕ → List ℕ → Run
+listed-run N k ps priorities = start-run N k ps (fixed-ranks (start-priorities N priorities))
 
 -- A refused start hands back the blank run.
 abbrev pub no-start : ℕ → Started
@@ -38,7 +42,7 @@ started N k ps priorities =
     unless below N ps give no-start 5 else
     unless different ps give no-start 6 else
     unless length priorities =? N give no-start 7 else
-    record { run = start-run N k ps priorities; refusal = 0 }
+    record { run = listed-run N k ps priorities; refusal = 0 }
 
 -- A start may name a default priority list. It is never refused with 7.
 unfoldable pub started-default : ℕ → ℕ → List ℕ → Started

@@ -24,12 +24,14 @@ use Rattle.slots.specs.Slots.{no-page}
 use Rattle.slots.specs.Laws.{seated-in, seated-was}
 use Rattle.begin.specs.Limits.{most-pages, most-slots, pages-fit, slots-fit}
 use Rattle.begin.specs.Begin.{below, different, start-layers, start-priorities, start-slots}
+use Rattle.ranking.specs.Ranks.{fixed-ranks}
+use Rattle.counts.specs.Counts.{no-counts}
 use Rattle.begin.specs.LimitLaws.{fit-pages, fit-slots}
 use Rattle.begin.specs.Laws.{below-true, different-true}
 use Rattle.run.specs.Numbers.{layer, priority, in-slot, ranks}
 use Rattle.run.specs.Cached.{cached}
 use Rattle.run.specs.Sound.{Sound}
-use Rattle.run.specs.Start.{start-run, started}
+use Rattle.run.specs.Start.{start-run, listed-run, started}
 
 start-layer-past : (N : ℕ) (ps : List ℕ) (q : ℕ) → N ≤ q → getD (start-layers N ps) q 0 ≡ 0
 unfolding start-layers
@@ -47,20 +49,20 @@ module _
     (list : StartList N k ps)
   where
     abbrev s : Run
-    s = start-run N k ps pr
+    s = listed-run N k ps pr
 
     slot-at : (t : ℕ) → t < k → in-slot s t ≡ getD ps t 0
-    unfolding start-run start-slots
+    unfolding start-run no-counts start-slots
     slot-at t l =
         table-at most-slots k no-page (λ t. getD ps t no-page) t l ∙ entry-any ps t no-page 0 (omega (arith, list .entries))
 
     slot-past : (t : ℕ) → k ≤ t → in-slot s t ≡ no-page
-    unfolding start-run start-slots
+    unfolding start-run no-counts start-slots
     slot-past t l = table-past most-slots k no-page (λ t. getD ps t no-page) t l
 
     -- the table holds the layers of the start
     pub start-layers-are : layer s ≡ start-layer ps
-    unfolding start-run start-layers
+    unfolding start-run no-counts start-layers
     start-layers-are = fun-ext at
       where
         past : (q : ℕ) → N ≤ q → start-layer ps q ≡ 0
@@ -75,7 +77,7 @@ module _
 
     -- the cached pages are those of the list
     pub start-cached : (q : ℕ) → cached s q ≡ seen (start-layer ps) q
-    unfolding start-run
+    unfolding start-run no-counts
     start-cached q = same-test (cached s q) (seen (start-layer ps) q) there back
       where
         there : q ∈ cached s → q ∈ seen (start-layer ps)
@@ -98,7 +100,7 @@ module _
         (start-justified (start ps) o (start-of ps list (slots .0)) refl)
 
     pub start-sound : Sound s
-    unfolding start-run
+    unfolding start-run no-counts
     start-sound =
         record {
           pages = pages;
@@ -129,7 +131,7 @@ pub record Accepted (N k : ℕ) (ps pr : List ℕ) : Type 0 where
   pub slots : (1 ≤ k) × (k ≤ most-slots) × (k ≤ N)
   pub list : StartList N k ps
   pub priorities : length pr ≡ N
-  pub run : started N k ps pr .run ≡ start-run N k ps pr
+  pub run : started N k ps pr .run ≡ listed-run N k ps pr
 
 pub accepted : (N k : ℕ) (ps pr : List ℕ) → started N k ps pr .refusal ≡ 0 → Accepted N k ps pr
 unfolding started

@@ -7,31 +7,36 @@ use lib.ListN.{length}
 use Rattle.paging.specs.Sets.{_=?_, _≤?_, if_then_else_, unless_give_else_}
 use Rattle.words.specs.Words.{word-at, put}
 use Rattle.image.specs.Layout.{image-bytes, image-length, pages-in, slots-in, image-refusal, image-layers, image-slots, image-priorities, marks-agree}
+use Rattle.ranking.specs.Ranks.{fixed-ranks}
+use Rattle.counts.specs.declared.Counts.{Counts}
 use Rattle.run.specs.declared.Run.{Run}
 use Rattle.run.specs.declared.Reading.{Reading}
 use Rattle.run.specs.declared.Reading.the-variants.{Accepted, Refused}
 use Rattle.run.specs.declared.Restored.{Restored}
 use Rattle.run.specs.declared.Stored.{Stored}
+use Rattle.run.specs.declared.Served.{Served}
 use Rattle.run.specs.Numbers.{blank-run}
 use Rattle.run.specs.Sound.{sound}
+use Rattle.run.specs.Request.{requested, refused}
 
 -- This paper's number of each case: 0 where the image is accepted.
 unfoldable pub reading-number : Reading → ℕ
 reading-number Accepted = 0
 reading-number (Refused n) = n
 
--- The run in an image.
+-- The counts and the run in an image.
+unfoldable pub image-counts : List ℕ → Counts
+image-counts b =
+    record { served = word-at 4 b 8; hits = word-at 4 b 12; misses = word-at 4 b 16; best = word-at 4 b 20 }
+
 unfoldable pub image-run : List ℕ → Run
 image-run b =
     record {
       pages = pages-in b;
       slots = slots-in b;
-      served = word-at 4 b 8;
-      hits = word-at 4 b 12;
-      misses = word-at 4 b 16;
-      best = word-at 4 b 20;
+      counts = image-counts b;
       layer = image-layers (pages-in b) b;
-      priority = image-priorities (pages-in b) (slots-in b) b;
+      ranks = fixed-ranks (image-priorities (pages-in b) (slots-in b) b);
       held = image-slots (pages-in b) (slots-in b) b;
     }
 
@@ -56,7 +61,7 @@ restore-refusal b =
 -- The image of a run.
 unfoldable pub image-of : Run → List ℕ
 image-of r =
-    image-bytes (r .pages) (r .slots) (r .served) (r .hits) (r .misses) (r .best) (r .layer) (r .priority) (r .held)
+    image-bytes (r .pages) (r .slots) (r .counts .served) (r .counts .hits) (r .counts .misses) (r .counts .best) (r .layer) (r .ranks .priority) (r .held)
 
 -- Image writer: 1, 16. It touches only the bytes it reports; no buffer changes beside a refusal.
 unfoldable pub store-refusal : Run → List ℕ → ℕ
@@ -73,3 +78,11 @@ stored r out =
 
 unfoldable pub stored-bytes : Run → List ℕ → List ℕ
 stored-bytes r out = if store-refusal r out =? 0 then put out 0 (image-of r) else out
+
+-- A request to the run in an image: the image is read, one request served. Refusals: image reader's, then request's.
+unfoldable pub after-reading : Run → Reading → ℕ → Served
+after-reading r Accepted p = requested r p
+after-reading r (Refused n) p = refused r n
+
+unfoldable pub requested-in : List ℕ → ℕ → Served
+requested-in b p = after-reading (restored b .run) (restored b .event) p

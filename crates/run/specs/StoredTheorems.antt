@@ -22,12 +22,14 @@ use Rattle.image.specs.Layout.{pages-in, slots-in, image-refusal, marks-agree}
 use Rattle.image.specs.Theorems.{Storable, stored-pages, stored-slots, stored-served, stored-hits, stored-misses}
 use Rattle.image.specs.Theorems.{stored-best, stored-accepted, stored-agree, stored-layer-table, stored-slot-table}
 use Rattle.image.specs.Theorems.{stored-priority-table, exact}
-use Rattle.run.specs.Numbers.{layer, most-served, blank-run}
+use Rattle.counts.specs.Counts.{no-counts, most-served, more}
+use Rattle.run.specs.Numbers.{layer, blank-run}
 use Rattle.run.specs.Cached.{slot-of}
 use Rattle.run.specs.Sound.{Sound, sound}
-use Rattle.run.specs.Start.{start-run}
-use Rattle.run.specs.Request.{counted, requested}
-use Rattle.run.specs.Stored.{stored-bytes, image-run, restored, image-of, store-refusal}
+use Rattle.ranking.specs.Ranks.{fixed-ranks}
+use Rattle.run.specs.Start.{start-run, listed-run}
+use Rattle.run.specs.Request.{counted, next-run, requested}
+use Rattle.run.specs.Stored.{stored-bytes, image-counts, image-run, restored, image-of, store-refusal}
 use Rattle.run.specs.SoundLaws.{sound-iff}
 use Rattle.run.specs.StartLaws.{accepted}
 use Rattle.run.specs.Storing.{restored-accepted, stored-untouched}
@@ -37,14 +39,14 @@ use Rattle.run.specs.Theorems.{hit-or-miss, told}
 -- What the types of a run's fields say of it: the lengths of its tables, and how wide its numbers are.
 pub record Typed (r : Run) : Type 0 where
   pub layers : length (r .layer) ≡ most-pages
-  pub priorities : length (r .priority) ≡ most-pages
+  pub priorities : length (r .ranks .priority) ≡ most-pages
   pub slots : length (r .held) ≡ most-slots
-  pub wide : (q : ℕ) → getD (r .priority) q 0 ≤ 65535
-  pub best : r .best ≤ 4294967295
+  pub wide : (q : ℕ) → getD (r .ranks .priority) q 0 ≤ 65535
+  pub best : r .counts .best ≤ 4294967295
 
 -- ---- What the image writer wrote, `restore` reads as the same run, for every sound run.
 
-pub storable : (r : Run) → Sound r → Typed r → Storable (r .pages) (r .slots) (r .served) (r .hits) (r .misses) (r .best) (r .layer) (r .priority) (r .held)
+pub storable : (r : Run) → Sound r → Typed r → Storable (r .pages) (r .slots) (r .counts .served) (r .counts .hits) (r .counts .misses) (r .counts .best) (r .layer) (r .ranks .priority) (r .held)
 storable r w t =
     record {
       limits = (w .pages .0, w .pages .1, w .slots .0, w .slots .1, w .slots .2);
@@ -58,38 +60,38 @@ storable r w t =
     }
 
 module _ (r : Run) (w : Sound r) (t : Typed r) where
-  st : Storable (r .pages) (r .slots) (r .served) (r .hits) (r .misses) (r .best) (r .layer) (r .priority) (r .held)
+  st : Storable (r .pages) (r .slots) (r .counts .served) (r .counts .hits) (r .counts .misses) (r .counts .best) (r .layer) (r .ranks .priority) (r .held)
   st = storable r w t
 
   reads-as : image-run (image-of r) ≡ r
-  unfolding image-of image-run
+  unfolding image-of image-run image-counts
   reads-as =
-      let N = stored-pages (r .pages) (r .slots) (r .served) (r .hits) (r .misses) (r .best) (r .layer) (r .priority) (r .held) st in
-      let k = stored-slots (r .pages) (r .slots) (r .served) (r .hits) (r .misses) (r .best) (r .layer) (r .priority) (r .held) st in
+      let N = stored-pages (r .pages) (r .slots) (r .counts .served) (r .counts .hits) (r .counts .misses) (r .counts .best) (r .layer) (r .ranks .priority) (r .held) st in
+      let k = stored-slots (r .pages) (r .slots) (r .counts .served) (r .counts .hits) (r .counts .misses) (r .counts .best) (r .layer) (r .ranks .priority) (r .held) st in
       rw (
         N,
         k,
-        stored-served (r .pages) (r .slots) (r .served) (r .hits) (r .misses) (r .best) (r .layer) (r .priority) (r .held) st,
-        stored-hits (r .pages) (r .slots) (r .served) (r .hits) (r .misses) (r .best) (r .layer) (r .priority) (r .held) st,
-        stored-misses (r .pages) (r .slots) (r .served) (r .hits) (r .misses) (r .best) (r .layer) (r .priority) (r .held) st,
-        stored-best (r .pages) (r .slots) (r .served) (r .hits) (r .misses) (r .best) (r .layer) (r .priority) (r .held) st,
-        stored-layer-table (r .pages) (r .slots) (r .served) (r .hits) (r .misses) (r .best) (r .layer) (r .priority) (r .held) st (t .layers) (w .no-layer),
-        stored-priority-table (r .pages) (r .slots) (r .served) (r .hits) (r .misses) (r .best) (r .layer) (r .priority) (r .held) st (t .priorities) (w .no-priority),
-        stored-slot-table (r .pages) (r .slots) (r .served) (r .hits) (r .misses) (r .best) (r .layer) (r .priority) (r .held) st (t .slots) (w .empty),
+        stored-served (r .pages) (r .slots) (r .counts .served) (r .counts .hits) (r .counts .misses) (r .counts .best) (r .layer) (r .ranks .priority) (r .held) st,
+        stored-hits (r .pages) (r .slots) (r .counts .served) (r .counts .hits) (r .counts .misses) (r .counts .best) (r .layer) (r .ranks .priority) (r .held) st,
+        stored-misses (r .pages) (r .slots) (r .counts .served) (r .counts .hits) (r .counts .misses) (r .counts .best) (r .layer) (r .ranks .priority) (r .held) st,
+        stored-best (r .pages) (r .slots) (r .counts .served) (r .counts .hits) (r .counts .misses) (r .counts .best) (r .layer) (r .ranks .priority) (r .held) st,
+        stored-layer-table (r .pages) (r .slots) (r .counts .served) (r .counts .hits) (r .counts .misses) (r .counts .best) (r .layer) (r .ranks .priority) (r .held) st (t .layers) (w .no-layer),
+        stored-priority-table (r .pages) (r .slots) (r .counts .served) (r .counts .hits) (r .counts .misses) (r .counts .best) (r .layer) (r .ranks .priority) (r .held) st (t .priorities) (w .no-priority),
+        stored-slot-table (r .pages) (r .slots) (r .counts .served) (r .counts .hits) (r .counts .misses) (r .counts .best) (r .layer) (r .ranks .priority) (r .held) st (t .slots) (w .empty),
       )
 
   agrees : marks-agree (pages-in (image-of r)) (slots-in (image-of r)) (image-of r) ≡ true
   unfolding image-of
   agrees =
       rw (
-        stored-pages (r .pages) (r .slots) (r .served) (r .hits) (r .misses) (r .best) (r .layer) (r .priority) (r .held) st,
-        stored-slots (r .pages) (r .slots) (r .served) (r .hits) (r .misses) (r .best) (r .layer) (r .priority) (r .held) st,
+        stored-pages (r .pages) (r .slots) (r .counts .served) (r .counts .hits) (r .counts .misses) (r .counts .best) (r .layer) (r .ranks .priority) (r .held) st,
+        stored-slots (r .pages) (r .slots) (r .counts .served) (r .counts .hits) (r .counts .misses) (r .counts .best) (r .layer) (r .ranks .priority) (r .held) st,
       )
-      (stored-agree (r .pages) (r .slots) (r .served) (r .hits) (r .misses) (r .best) (r .layer) (r .priority) (r .held) st)
+      (stored-agree (r .pages) (r .slots) (r .counts .served) (r .counts .hits) (r .counts .misses) (r .counts .best) (r .layer) (r .ranks .priority) (r .held) st)
 
   none-refused : image-refusal (image-of r) ≡ 0
   unfolding image-of
-  none-refused = stored-accepted (r .pages) (r .slots) (r .served) (r .hits) (r .misses) (r .best) (r .layer) (r .priority) (r .held) st
+  none-refused = stored-accepted (r .pages) (r .slots) (r .counts .served) (r .counts .hits) (r .counts .misses) (r .counts .best) (r .layer) (r .ranks .priority) (r .held) st
 
   pub stored-reads-back : restored (image-of r) ≡ record { run = r; event = Accepted }
   stored-reads-back =
@@ -107,7 +109,7 @@ module _ (r : Run) (w : Sound r) (t : Typed r) where
 -- ---- The reader accepts a byte string only if it is exactly the image of the run it gives.
 
 whole : (b : List ℕ) → Bytes b → image-refusal b ≡ 0 → marks-agree (pages-in b) (slots-in b) b ≡ true → image-of (image-run b) ≡ b
-unfolding image-of image-run
+unfolding image-of image-run image-counts
 whole b byte z agree = exact b byte z agree
 
 pub accepted-is-exact :
@@ -140,8 +142,8 @@ images-differ a b ba bb ea eb same =
 
 -- ---- A run with a history has its types, so that its image gives it back: a restored run has that history.
 
-typed-start : (N k : ℕ) (ps pr : List ℕ) → N ≤ most-pages → k ≤ most-slots → ((q : ℕ) → getD pr q 0 ≤ 65535) → Typed (start-run N k ps pr)
-unfolding start-run start-layers start-priorities start-slots
+typed-start : (N k : ℕ) (ps pr : List ℕ) → N ≤ most-pages → k ≤ most-slots → ((q : ℕ) → getD pr q 0 ≤ 65535) → Typed (listed-run N k ps pr)
+unfolding start-run no-counts start-layers start-priorities start-slots
 typed-start N k ps pr n s wide =
     record {
       layers = table-length 1024 N 0 (start-layer ps) n;
@@ -156,7 +158,7 @@ typed-start N k ps pr n s wide =
     }
 
 typed-counted : (r : Run) (p hit miss : ℕ) (held : List ℕ) → Sound r → Typed r → length held ≡ most-slots → Typed (counted r p hit miss held)
-unfolding counted
+unfolding counted next-run more
 typed-counted r p hit miss held w t l =
     record {
       layers = table-length most-pages (r .pages) 0 (next (r .slots) p (layer r)) (w .pages .1);
@@ -166,7 +168,7 @@ typed-counted r p hit miss held w t l =
       best = omega (arith, bit-le (eqb (layer r p) 0), w .best, w .counts, w .served);
     }
 
-pub typed-request : (r : Run) (p : ℕ) → Sound r → Typed r → p < r .pages → r .served < most-served → Typed (requested r p .run)
+pub typed-request : (r : Run) (p : ℕ) → Sound r → Typed r → p < r .pages → r .counts .served < most-served → Typed (requested r p .run)
 typed-request r p w t l room =
     ⊎-elim
     (λ h. subst Typed (sym (h .run)) (typed-counted r p 1 0 (r .held) w t (t .slots)))

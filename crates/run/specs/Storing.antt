@@ -8,6 +8,8 @@ use native.Mathlib.Omega.{arith}
 use lib.Dec.{leb}
 use lib.ListN.{length}
 use borrow.Author.Tests.{ne-eqb, le-leb, lt-leb, leb-true}
+use Rattle.ranking.specs.declared.Ranks.{Ranks}
+use Rattle.ranking.specs.Ranks.{fixed-ranks}
 use Rattle.run.specs.declared.Run.{Run}
 use Rattle.run.specs.declared.Reading.the-variants.{Accepted, Refused}
 use Rattle.run.specs.declared.Restored.{Restored}
@@ -20,7 +22,7 @@ use Rattle.image.specs.Layout.{image-priorities, marks-agree}
 use Rattle.image.specs.Laws.{refusal-read}
 use Rattle.run.specs.Numbers.{layer, blank-run}
 use Rattle.run.specs.Sound.{sound}
-use Rattle.run.specs.Stored.{stored-bytes, image-run, no-run, restored, restore-refusal, reading-number, image-of, store-refusal, stored}
+use Rattle.run.specs.Stored.{stored-bytes, image-counts, image-run, no-run, restored, restore-refusal, reading-number, image-of, store-refusal, stored}
 use Rattle.run.specs.SoundLaws.{sound-iff}
 
 -- ---- reading
@@ -94,7 +96,7 @@ pub image-long : (b : List ℕ) → image-refusal b ≡ 0 → 36 ≤ length b
 image-long b ok = refusal-read b ok .long
 
 pub image-run-is :
-    (b : List ℕ) (N k served hits misses best : ℕ) (layers priorities slots : List ℕ) →
+    (b : List ℕ) (N k served hits misses best : ℕ) (layers priorities slots : List ℕ) (ranks : Ranks) →
     N ≡ pages-in b →
     k ≡ slots-in b →
     served ≡ word-at 4 b 8 →
@@ -103,13 +105,14 @@ pub image-run-is :
     best ≡ word-at 4 b 20 →
     layers ≡ image-layers N b →
     priorities ≡ image-priorities N k b →
+    ranks ≡ fixed-ranks priorities →
     slots ≡ image-slots N k b →
     _≡_ {A = Run}
-    (record { pages = N; slots = k; served = served; hits = hits; misses = misses; best = best; layer = layers; priority = priorities; held = slots })
+    (record { pages = N; slots = k; counts = record { served = served; hits = hits; misses = misses; best = best }; layer = layers; ranks = ranks; held = slots })
     (image-run b)
-unfolding image-run
-image-run-is b N k served hits misses best layers priorities slots en ek es eh em eb el ep eo =
-    rw (el, ep, eo, en, ek, es, eh, em, eb)
+unfolding image-run image-counts
+image-run-is b N k served hits misses best layers priorities slots ranks en ek es eh em eb el ep er eo =
+    rw (er, el, ep, eo, en, ek, es, eh, em, eb)
 
 -- the run of an image has the image's N and k
 module _ (b : List ℕ) (x : Run) (ex : x ≡ image-run b) where

@@ -9,9 +9,7 @@ use Prim.Native.Nat.{ℕ, _+_, _≤_, _<_}
 use native.Mathlib.Omega.{arith}
 use lib.Dec.{eqb}
 use lib.ListN.{set}
-use Rattle.serve.specs.declared.Event.{Event}
 use Rattle.serve.specs.declared.Event.the-variants.{Hit, Miss, Refused}
-use Rattle.serve.specs.Step.{Stepped}
 use Rattle.run.specs.declared.Run.{Run}
 use Rattle.run.specs.declared.Served.{Served}
 use Rattle.paging.specs.Sets.{_∈_, bit, remove, insert}
@@ -22,20 +20,20 @@ use Rattle.paging.specs.Tests.{truth, is, same-or-not, le-or-lt}
 use Rattle.paging.specs.Lower.{after-full}
 use Rattle.paging.specs.FullRuns.{serve-full-is, after-more, below-more, least-same}
 use Rattle.paging.specs.Theorems.{start-least}
+use Rattle.ranking.specs.Ranks.{fixed-ranks}
 use Rattle.ranking.specs.Defaults.{default-priorities}
-use Rattle.certify.specs.Test.{room}
-use Rattle.run.specs.Numbers.{layer, most-served, in-slot}
+use Rattle.counts.specs.Counts.{no-counts, most-served, more}
+use Rattle.run.specs.Numbers.{layer, in-slot}
 use Rattle.run.specs.Cached.{cached, slot-of, selection, victim-of}
 use Rattle.run.specs.Sound.{Sound}
 use Rattle.run.specs.Start.{start-run, started, started-default}
-use Rattle.run.specs.Request.{served, counted, with-hit, with-miss, requested, tried}
+use Rattle.run.specs.Request.{served, counted, next-run, with-hit, with-miss, requested, tried}
 use Rattle.run.specs.SoundLaws.{sound-iff}
 use Rattle.run.specs.RequestLaws.{victim-in, slot-holds, counted-layers, hit-sound, victim-there, fresh-at, fresh-off}
 use Rattle.run.specs.RequestLaws.{swapped-set, miss-sound}
 use Rattle.run.specs.StartLaws.{start-layers-are, start-cached, start-sound, Accepted, accepted, started-sound}
 use Rattle.run.specs.Requesting.{request-refusal, refuse-page, refuse-served, refuse-none, not-refused, requested-refused}
 use Rattle.run.specs.Requesting.{requested-served}
-use Rattle.run.specs.Serving.{answered, event, served-answered}
 use Rattle.run.specs.History.{Begun, first-run, Comes-from, begins, serves}
 
 -- ---- A request of a page below N, to a sound run that may serve one more, is a hit or a miss.
@@ -56,7 +54,7 @@ pub record IsMiss (r : Run) (p v : ℕ) : Type 0 where
   pub event : requested r p .event ≡ Miss (slot-of r v) v
   pub run : requested r p .run ≡ counted r p 0 1 (set (r .held) (slot-of r v) p)
 
-module _ (r : Run) (w : Sound r) (p : ℕ) (pN : p < r .pages) (room : r .served < most-served) where
+module _ (r : Run) (w : Sound r) (p : ℕ) (pN : p < r .pages) (room : r .counts .served < most-served) where
   answers : requested r p ≡ served r p
   answers = requested-served r p (sym (refuse-none r p (sound-iff r .1 w) pN room))
 
@@ -125,12 +123,12 @@ cached-is-selection r p w = request-is-sound r p w .chosen
 -- ---- A hit changes no cached page; a miss removes exactly one and adds exactly the requested one.
 
 pub hit-changes-none : (r : Run) (p : ℕ) → IsHit r p → (q : ℕ) → cached (requested r p .run) q ≡ cached r q
-unfolding counted
+unfolding counted next-run more
 hit-changes-none r p h q = ap (λ (u : Run). cached u q) (h .run)
 
 pub miss-changes-one :
     (r : Run) → Sound r → (p : ℕ) → p < r .pages → (v : ℕ) → IsMiss r p v → (q : ℕ) → cached (requested r p .run) q ≡ insert p (remove v (cached r)) q
-unfolding counted
+unfolding counted next-run more
 miss-changes-one r w p pN v h q =
     ap (λ (u : Run). cached u q) (h .run) ∙ sym (swapped-set r w p pN v (h .not-cached) (h .victim-is) q)
 
@@ -139,7 +137,7 @@ pub miss-slots :
     (r : Run) → Sound r → (p : ℕ) → p < r .pages → (v : ℕ) → IsMiss r p v →
     (in-slot (requested r p .run) (slot-of r v) ≡ p)
     × ((s : ℕ) → (s ≡ slot-of r v → ⊥) → in-slot (requested r p .run) s ≡ in-slot r s)
-unfolding counted
+unfolding counted next-run more
 miss-slots r w p pN v h = (
   ap (λ (u : Run). in-slot u (slot-of r v)) (h .run) ∙ fresh-at r w p pN v (h .not-cached) (h .victim-is),
   λ s ne. ap (λ (u : Run). in-slot u s) (h .run) ∙ fresh-off r w p pN v (h .not-cached) (h .victim-is) s ne,
@@ -147,7 +145,7 @@ miss-slots r w p pN v h = (
 
 -- ---- The layers after a served request are those of the two rules, and a request to L_0 adds 1 to best.
 
-module _ (r : Run) (w : Sound r) (p : ℕ) (pN : p < r .pages) (room : r .served < most-served) where
+module _ (r : Run) (w : Sound r) (p : ℕ) (pN : p < r .pages) (room : r .counts .served < most-served) where
   pub layers-move : layer (requested r p .run) ≡ next (r .slots) p (layer r)
   layers-move =
       ⊎-elim
@@ -157,17 +155,17 @@ module _ (r : Run) (w : Sound r) (p : ℕ) (pN : p < r .pages) (room : r .served
       ap layer (h .run) ∙ counted-layers r w p pN 0 1 (set (r .held) (slot-of r v) p))
       (hit-or-miss r w p pN room)
 
-  pub best-counts : requested r p .run .best ≡ r .best + bit (eqb (layer r p) 0)
-  unfolding counted
+  pub best-counts : requested r p .run .counts .best ≡ r .counts .best + bit (eqb (layer r p) 0)
+  unfolding counted next-run more
   best-counts =
       ⊎-elim
-      (λ h. ap (λ (u : Run). u .best) (h .run))
-      (λ m. ap (λ (u : Run). u .best) (m .1 .run))
+      (λ h. ap (λ (u : Run). u .counts .best) (h .run))
+      (λ m. ap (λ (u : Run). u .counts .best) (m .1 .run))
       (hit-or-miss r w p pN room)
 
   -- N and k stay.
   pub pages-stay : requested r p .run .pages ≡ r .pages
-  unfolding counted
+  unfolding counted next-run more
   pages-stay =
       ⊎-elim
       (λ h. ap (λ (u : Run). u .pages) (h .run))
@@ -175,7 +173,7 @@ module _ (r : Run) (w : Sound r) (p : ℕ) (pN : p < r .pages) (room : r .served
       (hit-or-miss r w p pN room)
 
   pub slots-stay : requested r p .run .slots ≡ r .slots
-  unfolding counted
+  unfolding counted next-run more
   slots-stay =
       ⊎-elim
       (λ h. ap (λ (u : Run). u .slots) (h .run))
@@ -189,11 +187,11 @@ module _ (r : Run) (w : Sound r) (p : ℕ) where
   refused-8 h =
       sym (ap (λ (s : Served). s .event) (requested-refused r p 8 (refuse-page r p (sound-iff r .1 w) h) (λ z. omega arith)))
 
-  pub refused-9 : p < r .pages → most-served ≤ r .served → requested r p .event ≡ Refused 9
+  pub refused-9 : p < r .pages → most-served ≤ r .counts .served → requested r p .event ≡ Refused 9
   refused-9 l h =
       sym (ap (λ (s : Served). s .event) (requested-refused r p 9 (refuse-served r p (sound-iff r .1 w) l h) (λ z. omega arith)))
 
-  pub never-refused : p < r .pages → r .served < most-served → (n : ℕ) → requested r p .event ≡ Refused n → ⊥
+  pub never-refused : p < r .pages → r .counts .served < most-served → (n : ℕ) → requested r p .event ≡ Refused n → ⊥
   never-refused l room n e =
       ⊎-elim
       (λ h. let z : Hit (slot-of r p) ≡ Refused n = sym (h .event) ∙ e in let o : _≡_ {A = ℕ} 0 1 = cc in omega arith)
@@ -204,22 +202,6 @@ module _ (r : Run) (w : Sound r) (p : ℕ) where
       omega arith)
       (hit-or-miss r w p l room)
 
-  -- nor is the step that the code makes
-  pub step-not-refused :
-      p < r .pages →
-      r .served < most-served →
-      {e : Event} {layer′ held′ near′ keys′ : List ℕ} →
-      Stepped (r .pages) (r .slots) p (r .layer) (r .priority) (r .held) e layer′ held′ near′ keys′ →
-      {n : ℕ} →
-      e ≡ Refused n →
-      ⊥
-  unfolding answered
-  step-not-refused l room st {n} h =
-      let is : event r p ≡ Refused n = sym (st .event-is) ∙ h in
-      never-refused l room n
-      (ap (λ (s : Served). s .event) (answers r w p l room ∙ served-answered r p)
-      ∙ rw is)
-
   pub never-17 : requested r p .event ≡ Refused 17 → ⊥
   never-17 e =
       ⊎-elim
@@ -228,7 +210,7 @@ module _ (r : Run) (w : Sound r) (p : ℕ) where
       ⊎-elim
       (λ h. let z : Refused 9 ≡ Refused 17 = sym (refused-9 l h) ∙ e in let o : _≡_ {A = ℕ} 9 17 = cc in omega arith)
       (λ room. never-refused l room 17 e)
-      (le-or-lt most-served (r .served)))
+      (le-or-lt most-served (r .counts .served)))
       (le-or-lt (r .pages) p)
 
 -- ---- Request and trial agree in everything but the run that they hand back.
@@ -248,10 +230,10 @@ pub record Told (b : Begun) (ps : List ℕ) (r : Run) : Type 0 where
   pub slots-are : r .slots ≡ b .slots
   pub below : Below (b .pages) ps
   pub layers-are : layer r ≡ after (b .slots) (start (b .list)) ps .layer
-  pub best-is : r .best ≡ after (b .slots) (start (b .list)) ps .best
+  pub best-is : r .counts .best ≡ after (b .slots) (start (b .list)) ps .best
 
 told-start : (b : Begun) → Told b [] (first-run b)
-unfolding after start-run
+unfolding after start-run no-counts
 told-start b =
     let a = accepted (b .pages) (b .slots) (b .list) (b .priorities) (b .accepted) in
     rw (a .run)
@@ -265,7 +247,7 @@ told-start b =
     })
 
 told-more :
-    (b : Begun) (ps : List ℕ) (r : Run) (p : ℕ) → Told b ps r → p < r .pages → r .served < most-served → Told b (ps ++ (p ∷ [])) (requested r p .run)
+    (b : Begun) (ps : List ℕ) (r : Run) (p : ℕ) → Told b ps r → p < r .pages → r .counts .served < most-served → Told b (ps ++ (p ∷ [])) (requested r p .run)
 told-more b ps r p t l room =
     record {
       sound-is = request-is-sound r p w;
@@ -278,7 +260,7 @@ told-more b ps r p t l room =
           ∙ (ap (next (b .slots) p) (t .layers-are) ∙ sym (ap (λ (u : State). u .layer) next-state)));
       best-is =
           best-counts r w p l room
-          ∙ (ap (λ (n : ℕ). r .best + bit (eqb n 0)) (ap (λ (F : ℕ → ℕ). F p) (t .layers-are))
+          ∙ (ap (λ (n : ℕ). r .counts .best + bit (eqb n 0)) (ap (λ (F : ℕ → ℕ). F p) (t .layers-are))
           ∙ (ap (λ (n : ℕ). n + bit (eqb (s .layer p) 0)) (t .best-is) ∙ sym (ap (λ (u : State). u .best) next-state)));
     }
   where
@@ -300,7 +282,7 @@ told b begins = told-start b
 told b (serves {ps = ps} {r = r} c p l room) = told-more b ps r p (told b c) l room
 
 pub best-is-least :
-    (b : Begun) (ps : List ℕ) (r : Run) → Comes-from b ps r → Least (b .pages) (b .slots) (cached (first-run b)) ps (r .best)
+    (b : Begun) (ps : List ℕ) (r : Run) → Comes-from b ps r → Least (b .pages) (b .slots) (cached (first-run b)) ps (r .counts .best)
 best-is-least b ps r c =
     let t = told b c in
     let a = accepted (b .pages) (b .slots) (b .list) (b .priorities) (b .accepted) in
@@ -319,6 +301,6 @@ best-is-least b ps r c =
     start-pages a q = rw (a .run) (start-cached (b .pages) (b .slots) (b .list) (b .priorities) (a .pages) (a .slots) (a .list) q)
 
 -- With no requests best is 0.
-pub best-at-start : (b : Begun) → first-run b .best ≡ 0
+pub best-at-start : (b : Begun) → first-run b .counts .best ≡ 0
 unfolding after
 best-at-start b = told b begins .best-is

@@ -1,31 +1,33 @@
 // A run: what the board keeps, and every call on it that is not a file or a frame. What each call means is said in specs/.
 // Assumes nothing.
 ghost use mathlib.Core.Path.{_≡_};
-ghost use Prim.Native.Nat.{_+_, _≤_, _<_};
+ghost use Prim.Native.Nat.{_<_};
 ghost use lib.ListN.{length};
-ghost use Rattle.paging.specs.Sets.{_=?_, bit};
-ghost use Rattle.run.specs.Numbers.{most-served, blank-run};
-ghost use Rattle.run.specs.Start.{started, started-default};
-ghost use Rattle.run.specs.Starting.{list-refusal, begun-run};
-ghost use Rattle.run.specs.Sound.{Sound, sound};
-ghost use Rattle.run.specs.Testing.{of-parts};
-ghost use Rattle.run.specs.Request.{served, refused, requested, request-values, tried};
-ghost use Rattle.run.specs.Requesting.{sound-refusal};
+ghost use Rattle.ranking.specs.Key.{Narrow, page-keys};
+ghost use Rattle.ranking.specs.Ranks.{fixed-ranks};
+ghost use Rattle.begin.specs.Refusals.{list-refusal};
+ghost use Rattle.counts.specs.Counts.{most-served};
 ghost use Rattle.serve.specs.Event.{values};
-ghost use Rattle.run.specs.Questions.{refusal, layer-answer, certain-answer, selection-answer};
 ghost use Rattle.image.specs.Layout.{image-refusal};
-ghost use Rattle.run.specs.Stored.{image-run, restored, restore-refusal, reading-number, store-refusal, stored, stored-bytes};
+ghost use Rattle.run.specs.Numbers.{blank-run};
+ghost use Rattle.run.specs.Start.{start-run, started, started-default};
+ghost use Rattle.run.specs.Sound.{Sound, sound};
+ghost use Rattle.run.specs.Testing.{parts-sound};
+ghost use Rattle.run.specs.Request.{served, refused, requested, request-values, tried};
+ghost use Rattle.run.specs.Serving.{RunKeys};
+ghost use Rattle.run.specs.Questions.{refusal, layer-answer, certain-answer, selection-answer};
+ghost use Rattle.run.specs.Stored.{image-run, restored, restore-refusal, reading-number, store-refusal, stored, stored-bytes, requested-in};
+use counts::Counts;
+use ranking::Key;
+use ranking::Ranks;
 use serve::Event;
 
 pub struct Run {
     pub pages: usize,
     pub slots: usize,
-    pub served: u32,
-    pub hits: u32,
-    pub misses: u32,
-    pub best: u32,
+    pub counts: Counts,
     pub layer: [u8; 1024],
-    pub priority: [u16; 1024],
+    pub ranks: Ranks,
     pub held: [u16; 64],
 }
 
@@ -86,50 +88,24 @@ impl Run {
         Self {
             pages: 0,
             slots: 0,
-            served: 0,
-            hits: 0,
-            misses: 0,
-            best: 0,
+            counts: counts::none(),
             layer: [0u8; 1024],
-            priority: [0u16; 1024],
+            ranks: ranking::fixed([0u16; 1024]),
             held: [65535u16; 64],
         }
     }
 
-    // The first refusal of a start that its numbers and its list give: 2 to 6, or 0.
-    fn list_refusal(pages: usize, slots: usize, list: &[u16]) -> u8
-        ensures { λ r. ⌜ r ≡ list-refusal pages slots (now (list .entry)) ⌝ }
-    {
-        let refusal = begin::limits_refusal(pages, slots);
-        if refusal != 0 {
-            return refusal;
-        }
-        if list.len() != slots {
-            return 4;
-        }
-        if !begin::all_below(list, pages) {
-            return 5;
-        }
-        if !begin::all_different(list) {
-            return 6;
-        }
-        0
-    }
-
     // A run that begins with the pages of a list in its slots.
-    fn begun(pages: usize, slots: usize, list: &[u16], priority: [u16; 1024]) -> Self
+    fn begun(pages: usize, slots: usize, list: &[u16], ranks: Ranks) -> Self
         requires { ⌜ list-refusal pages slots (now list) ≡ 0 ⌝ }
-        ensures { λ r. ⌜ r ≡ begun-run pages slots (now (list .entry)) priority ⌝ }
+        ensures { λ r. ⌜ r ≡ start-run pages slots (now (list .entry)) ranks ⌝ }
     {
         Self {
             pages,
             slots,
-            served: 0,
-            hits: 0,
-            misses: 0,
-            best: 0,
+            counts: counts::none(),
             layer: begin::layers_of(list, pages),
-            priority,
+            ranks,
             held: begin::slots_of(list, slots),
         }
     }
@@ -138,21 +114,17 @@ impl Run {
     pub fn start(pages: usize, slots: usize, list: &[u16], priorities: &[u16]) -> Started
         ensures { λ r. ⌜ r ≡ started pages slots (now (list .entry)) (now (priorities .entry)) ⌝ }
     {
-        let refusal = Run::list_refusal(pages, slots, list);
+        let given = priorities.len();
+        let refusal = begin::refusal(pages, slots, list, given, Run::MAX_PAGES, Run::MAX_SLOTS);
         if refusal != 0 {
             return Started {
                 run: Run::blank(),
                 refusal,
             };
         }
-        if priorities.len() != pages {
-            return Started {
-                run: Run::blank(),
-                refusal: 7,
-            };
-        }
+        let ranks = ranking::fixed(begin::priorities_of(priorities, pages));
         Started {
-            run: Run::begun(pages, slots, list, begin::priorities_of(priorities, pages)),
+            run: Run::begun(pages, slots, list, ranks),
             refusal: 0,
         }
     }
@@ -161,23 +133,25 @@ impl Run {
     pub fn start_default(pages: usize, slots: usize, list: &[u16]) -> Started
         ensures { λ r. ⌜ r ≡ started-default pages slots (now (list .entry)) ⌝ }
     {
-        let refusal = Run::list_refusal(pages, slots, list);
+        let refusal = begin::refusal(pages, slots, list, pages, Run::MAX_PAGES, Run::MAX_SLOTS);
         if refusal != 0 {
             return Started {
                 run: Run::blank(),
                 refusal,
             };
         }
+        let ranks = ranking::fixed(begin::default_priorities(pages));
         Started {
-            run: Run::begun(pages, slots, list, begin::default_priorities(pages)),
+            run: Run::begun(pages, slots, list, ranks),
             refusal: 0,
         }
     }
 
-    // A request of a page to a run that is known to be sound, and may serve one more: O(N + k), and no test inside. No
-    // part of it is a function that takes the run: each would copy it.
-    pub fn serve(mut self, page: usize) -> Served
-        requires { ⌜ Sound self × (page < self .pages) × (self .served < most-served) ⌝ }
+    // A request of a page to a run that is known to be sound, and may serve one more, with the keys of its pages: O(N + k), and no
+    // test inside. No part of it is a function that takes the run: each would copy it.
+    fn serve(mut self, page: usize, keys: &[Key; 1024]) -> Served
+        requires known { ⌜ Sound self × (page < self .pages) × (self .counts .served < most-served) ⌝ }
+        requires keyed { ⌜ RunKeys self (now keys) ⌝ }
         ensures { λ r. ⌜ r ≡ served self page ⌝ }
     {
         let pages = self.pages;
@@ -185,103 +159,72 @@ impl Run {
         let mut layer = self.layer;
         let mut held = self.held;
         let mut near = slots::nears(&layer, &held, slots);
-        let mut keys = slots::keys(&self.priority, &held, slots);
-        let new = Run::new_page(layer[page]);
+        let mut seat_keys = slots::keys(keys, &held, slots);
+        let new = counts::new_page(layer[page]);
         let event = serve::step(
             &mut layer,
-            &self.priority,
             &mut held,
             &mut near,
-            &mut keys,
+            &mut seat_keys,
             pages,
             (slots % 256) as u8,
             (page % 65536) as u16,
+            keys[page],
         );
+        let was = self.counts;
+        let turn = counts::counted(was, event, new);
+        let counts = turn.counts;
+        let told = turn.event;
         self.layer = layer;
         self.held = held;
-        self.served += 1;
-        self.best += new;
-        let best = self.best;
-        match event {
-            Event::Hit { slot } => {
-                self.hits += 1;
-                Served {
-                    run: self,
-                    event: Event::Hit { slot },
-                    best,
-                }
-            }
-            Event::Miss { slot, victim } => {
-                self.misses += 1;
-                Served {
-                    run: self,
-                    event: Event::Miss { slot, victim },
-                    best,
-                }
-            }
-            Event::Refused { number } => Served {
-                run: self,
-                event: Event::Refused { number },
-                best: 0,
-            },
+        self.counts = counts;
+        Served {
+            run: self,
+            event: told,
+            best: turn.best,
         }
     }
 
-    // 1 for layer 0, else 0.
-    fn new_page(layer: u8) -> u32
-        ensures { λ r. ⌜ r ≡ bit (layer =? 0) ⌝ }
-    {
-        if layer == 0 { 1 } else { 0 }
-    }
-
-    // Whether the run of some parts is sound. Hits and misses are not added before it is known that the sum fits. It takes the
-    // parts, so that a request need not copy the run to have it tested.
-    fn sound_parts<'a>(
+    // Whether the run of some parts is sound. It takes the parts, so that a request need not copy the run to have it tested.
+    fn parts_sound<'a>(
         pages: usize,
         slots: usize,
-        served: u32,
-        hits: u32,
-        misses: u32,
-        best: u32,
+        counts: Counts,
         layer: &'a [u8; 1024],
         priority: &'a [u16; 1024],
         held: &'a [u16; 64],
+        keys: &'a [Key; 1024],
     ) -> bool
-        requires { ⌜ (length (now layer) ≡ 1024) × (length (now priority) ≡ 1024) × (length (now held) ≡ 64) ⌝ }
-        ensures { λ r. ⌜ r ≡ sound (of-parts pages slots served hits misses best (now (layer .entry)) (now (priority .entry)) (now (held .entry))) ⌝ }
+        requires lengths { ⌜ (length (now layer) ≡ 1024) × (length (now priority) ≡ 1024) × (length (now held) ≡ 64) ⌝ }
+        requires keyed { ⌜ (now keys ≡ page-keys (now priority)) × Narrow (now priority) ⌝ }
+        ensures { λ r. ⌜ r ≡ parts-sound pages slots counts (now (layer .entry)) (fixed-ranks (now (priority .entry))) (now (held .entry)) ⌝ }
     {
-        if begin::limits_refusal(pages, slots) != 0 {
+        if begin::limits_refusal(pages, slots, Run::MAX_PAGES, Run::MAX_SLOTS) != 0 {
             return false;
         }
-        if Run::MAX_SERVED < served {
+        if !counts::fit(counts, Run::MAX_SERVED) {
             return false;
         }
-        if served < hits {
+        if !layers::no_number_from(priority, pages) {
             return false;
         }
-        if served - hits != misses {
-            return false;
-        }
-        if misses < best {
-            return false;
-        }
-        certify::tables(layer, priority, held, pages, slots)
+        certify::tables(layer, keys, held, pages, slots)
     }
 
     // Whether the run is sound.
     pub fn is_sound(self) -> bool
         ensures { λ r. ⌜ r ≡ sound self ⌝ }
     {
-        Run::sound_parts(
+        let keys = ranking::keys(&self.ranks.priority);
+        let counts = self.counts;
+        Run::parts_sound(
             self.pages,
             self.slots,
-            self.served,
-            self.hits,
-            self.misses,
-            self.best,
+            counts,
             &self.layer,
-            &self.priority,
+            &self.ranks.priority,
             &self.held,
+            &keys,
         )
     }
 
@@ -295,56 +238,31 @@ impl Run {
         }
     }
 
-    // The refusal of a request to a sound run, by its numbers: 8, 9, or 0.
-    fn sound_refusal(pages: usize, served: u32, page: usize) -> u8
-        ensures { λ r. ⌜ r ≡ sound-refusal pages served page ⌝ }
-    {
-        if page >= pages {
-            return 8;
-        }
-        if Run::MAX_SERVED <= served {
-            return 9;
-        }
-        0
-    }
-
-    // A request to a run that is known to be sound: refusals 8, 9, 17, and no test of the whole run.
-    pub fn request_of_sound(self, page: usize) -> Served
-        requires { ⌜ Sound self ⌝ }
-        ensures { λ r. ⌜ r ≡ requested self page ⌝ }
-    {
-        let refusal = Run::sound_refusal(self.pages, self.served, page);
-        if refusal != 0 {
-            return self.refused(refusal);
-        }
-        self.serve(page)
-    }
-
     // Serves a request: the next run with the event, and best with this request counted. Refusals 1, 8, 9, 17: then this run. The
     // run is not handed on before it is served, since each function that takes it copies it.
     pub fn request(mut self, page: usize) -> Served
         ensures answer { λ r. ⌜ r ≡ requested self page ⌝ }
         ensures numbers { λ r. ⌜ values (r .event) ≡ request-values self page ⌝ }
     {
-        let is_sound = Run::sound_parts(
+        let keys = ranking::keys(&self.ranks.priority);
+        let counts = self.counts;
+        let is_sound = Run::parts_sound(
             self.pages,
             self.slots,
-            self.served,
-            self.hits,
-            self.misses,
-            self.best,
+            counts,
             &self.layer,
-            &self.priority,
+            &self.ranks.priority,
             &self.held,
+            &keys,
         );
         if !is_sound {
             return self.refused(1);
         }
-        let refusal = Run::sound_refusal(self.pages, self.served, page);
+        let refusal = counts::refusal(self.pages, counts.served, page, Run::MAX_SERVED);
         if refusal != 0 {
             return self.refused(refusal);
         }
-        self.serve(page)
+        self.serve(page, &keys)
     }
 
     // Answers as a request would, and keeps nothing: this run comes back.
@@ -401,15 +319,8 @@ impl Run {
             };
         }
         let layer = self.layer;
-        let j = layer[page];
-        if j == 0 {
-            return CertainAnswer {
-                certain: false,
-                refusal: 0,
-            };
-        }
         CertainAnswer {
-            certain: layers::pages_in(&layer, self.pages, j) == 1,
+            certain: layers::alone(&layer, self.pages, page),
             refusal: 0,
         }
     }
@@ -425,15 +336,15 @@ impl Run {
             };
         }
         let layer = self.layer;
-        let priority = self.priority;
+        let keys = ranking::keys(&self.ranks.priority);
         SelectionAnswer {
-            pages: selection::selected(layer, priority, self.pages, self.slots),
+            pages: selection::selected(layer, keys, self.pages, self.slots),
             refusal: 0,
         }
     }
 
     // The run in an image whose length and header are right.
-    pub fn in_image(image: &[u8]) -> Self
+    fn in_image(image: &[u8]) -> Self
         requires { ⌜ image-refusal (now image) ≡ 0 ⌝ }
         ensures { λ r. ⌜ r ≡ image-run (now (image .entry)) ⌝ }
     {
@@ -442,12 +353,14 @@ impl Run {
         Self {
             pages,
             slots,
-            served: words::read_u32(image, 8),
-            hits: words::read_u32(image, 12),
-            misses: words::read_u32(image, 16),
-            best: words::read_u32(image, 20),
+            counts: Counts {
+                served: words::read_u32(image, 8),
+                hits: words::read_u32(image, 12),
+                misses: words::read_u32(image, 16),
+                best: words::read_u32(image, 20),
+            },
             layer: image::layers(image, pages),
-            priority: image::priorities(image, pages, slots),
+            ranks: ranking::fixed(image::priorities(image, pages, slots)),
             held: image::slots(image, pages, slots),
         }
     }
@@ -457,7 +370,7 @@ impl Run {
         ensures answer { λ r. ⌜ r ≡ restored (now (image .entry)) ⌝ }
         ensures number { λ r. ⌜ reading-number (r .event) ≡ restore-refusal (now (image .entry)) ⌝ }
     {
-        let number = image::refusal(image);
+        let number = image::refusal(image, Run::MAX_PAGES, Run::MAX_SLOTS);
         if number != 0 {
             return Restored {
                 run: Run::blank(),
@@ -481,6 +394,27 @@ impl Run {
             run: self,
             event: Reading::Accepted,
         }
+    }
+
+    // Takes up the run in an image in this one's place and serves a request of it, with one soundness test for both. Refusals: the
+    // image reader's, with the blank run; then 8, 9, 17, with the run in the image.
+    pub fn request_in(mut self, image: &[u8], page: usize) -> Served
+        ensures { λ r. ⌜ r ≡ requested-in (now (image .entry)) page ⌝ }
+    {
+        let number = image::refusal(image, Run::MAX_PAGES, Run::MAX_SLOTS);
+        if number != 0 {
+            return Run::blank().refused(number);
+        }
+        self = Run::in_image(image);
+        if !image::agree(image, self.pages, self.slots) {
+            return Run::blank().refused(1);
+        }
+        let served = self.request(page);
+        let event = served.event;
+        if let Event::Refused { number: 1 } = event {
+            return Run::blank().refused(1);
+        }
+        served
     }
 
     // The first refusal of the image writer: 1, 16, or 0.
@@ -511,12 +445,12 @@ impl Run {
             out,
             pages,
             slots,
-            self.served,
-            self.hits,
-            self.misses,
-            self.best,
+            self.counts.served,
+            self.counts.hits,
+            self.counts.misses,
+            self.counts.best,
             &self.layer,
-            &self.priority,
+            &self.ranks.priority,
             &self.held,
         );
         Stored {

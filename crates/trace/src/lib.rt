@@ -51,7 +51,7 @@ fn header_refusal(file: &[u8]) -> u8
     let pages = words::read_u32(file, 0) as usize;
     let slots = words::read_u32(file, 4) as usize;
     let requests = words::read_u32(file, 8) as usize;
-    let refusal = begin::limits_refusal(pages, slots);
+    let refusal = begin::limits_refusal(pages, slots, Run::MAX_PAGES, Run::MAX_SLOTS);
     if refusal != 0 {
         return refusal;
     }
@@ -208,7 +208,7 @@ pub fn write_default<'a>(
     ensures answer { λ r. ⌜ r ≡ written pages slots (now (list .entry)) (default-priorities pages) (now (requests .entry)) (now (out .entry)) ⌝ }
     ensures buffer { λ _. ⌜ now (out .exit) ≡ written-bytes pages slots (now (list .entry)) (default-priorities pages) (now (requests .entry)) (now (out .entry)) ⌝ }
 {
-    let refusal = begin::limits_refusal(pages, slots);
+    let refusal = begin::limits_refusal(pages, slots, Run::MAX_PAGES, Run::MAX_SLOTS);
     if refusal != 0 {
         return Written { length: 0, refusal };
     }

@@ -38,22 +38,26 @@ layers-requires c κs =
 priorities-requires : tie.Need-priorities-requires
 priorities-requires c κs = image-fits _ _ _ (c .before .before .before .before .before .before .before .before .pre) (c .before .before .before .before .before .before .read-u32 .ensures) (c .before .before .before .before .before .read-u322 .ensures)
 
+fixed-requires : tie.Need-fixed-requires
+fixed-requires c κs = search needs
+
 slots-requires : tie.Need-slots-requires
 slots-requires c κs =
-    let f = image-fits _ _ _ (c .before .before .before .before .before .before .before .before .before .pre) (c .before .before .before .before .before .before .before .read-u32 .ensures) (c .before .before .before .before .before .before .read-u322 .ensures) in
+    let f = image-fits _ _ _ (c .before .before .before .before .before .before .before .before .before .before .pre) (c .before .before .before .before .before .before .before .before .read-u32 .ensures) (c .before .before .before .before .before .before .before .read-u322 .ensures) in
     (f .0, f .1, omega arith)
 
 returns : tie.Need-returns
 returns c =
-    image-run-is _ _ _ _ _ _ _ _ _ _
-    (c .before .before .before .before .before .before .before .before .read-u32 .ensures)
-    (c .before .before .before .before .before .before .before .read-u322 .ensures)
-    (c .before .before .before .before .before .before .read-u323 .ensures)
-    (c .before .before .before .before .before .read-u324 .ensures)
-    (c .before .before .before .before .read-u325 .ensures)
-    (c .before .before .before .read-u326 .ensures)
-    (c .before .before .layers .ensures)
-    (c .before .priorities .ensures)
+    image-run-is _ _ _ _ _ _ _ _ _ _ _
+    (c .before .before .before .before .before .before .before .before .before .read-u32 .ensures)
+    (c .before .before .before .before .before .before .before .before .read-u322 .ensures)
+    (c .before .before .before .before .before .before .before .read-u323 .ensures)
+    (c .before .before .before .before .before .before .read-u324 .ensures)
+    (c .before .before .before .before .before .read-u325 .ensures)
+    (c .before .before .before .before .read-u326 .ensures)
+    (c .before .before .before .layers .ensures)
+    (c .before .before .priorities .ensures)
+    (c .before .fixed .ensures)
     (c .slots .ensures)
 
 pub in-image-spec : {M : Type 1} → statement M
@@ -70,5 +74,6 @@ in-image-spec =
     read-u32-requires-6
     layers-requires
     priorities-requires
+    fixed-requires
     slots-requires
     returns)

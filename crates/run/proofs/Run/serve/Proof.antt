@@ -1,22 +1,26 @@
--- `Run::serve` meets its contract: a sound run is ready for the step, whose answer is the rule's and no refusal. Assumes nothing.
+-- `Run::serve` meets its contract: a sound run is ready for the step, whose answer is the rule's. Assumes nothing.
 use Prim.Native.Nat.{_-_}
-use mathlib.Core.Path.{_≡_}
+use mathlib.Core.Path.{_≡_, refl}
 use native.Mathlib.Omega.{arith}
 use lib.ListN.{length, getD}
 use borrow.Author.Needs.{needs}
-use Rattle.run.specs.Serving.{slots-hold, slots-byte, page-short, run-ready, counts-fit, serve-answer, hit-answered, miss-answered}
-use Rattle.run.specs.Theorems.{step-not-refused}
+use Rattle.ranking.specs.Key.{key-at}
+use Rattle.slots.specs.Laws.{keys-length}
+use Rattle.counts.specs.Laws.{counts-room}
+use Rattle.run.specs.Request.{next-run}
+use Rattle.run.specs.SoundLaws.{run-counts}
+use Rattle.run.specs.Serving.{slots-hold, slots-byte, page-short, run-ready, run-ranked, step-taken}
 use Rattle.run.proofs.Run.serve.Statement.{statement}
 use Rattle.run.proofs.Run.serve.Tie as tie
 
 nears-requires : tie.Need-nears-requires
-nears-requires c κs = slots-hold _ (c .before .before .before .before .pre .0)
+nears-requires c κs = slots-hold _ (c .before .before .before .before .pre .0 .0)
 
 keys-requires : tie.Need-keys-requires
-keys-requires c κs = slots-hold _ (c .before .before .before .before .before .before .before .before .pre .0)
+keys-requires c κs = slots-hold _ (c .before .before .before .before .before .before .pre .0 .0)
 
 array-read-new-page : tie.Need-array-read-new-page
-array-read-new-page c = search needs
+array-read-new-page c = let w = c .before .before .before .before .before .before .before .pre .0 in omega (arith, w .1, w .0 .pages)
 
 new-page-requires : tie.Need-new-page-requires
 new-page-requires c κs = search needs
@@ -27,72 +31,36 @@ cast-step c = search needs
 cast-step-2 : tie.Need-cast-step-2
 cast-step-2 c = search needs
 
+mul-step : tie.Need-mul-step
+mul-step c = let w = c .before .before .before .before .before .before .before .before .before .before .before .before .pre .0 in omega (arith, w .1, w .0 .pages)
+
+element-copy-out-step : tie.Need-element-copy-out-step
+element-copy-out-step c = let w = c .before .before .before .before .before .before .before .before .before .before .before .before .pre .0 in omega (arith, w .1, w .0 .pages)
+
 step-requires : tie.Need-step-requires
 step-requires c κs =
-    let s = c .before .before .before .before .before .before .before .before .before .before .before .before .before .before .before .before in
-    let w = s .pre .0 in
-    let long : length (s .args .t1 .layer) ≡ 1024 = search needs in
-    let seats : length (s .args .t1 .held) ≡ 64 = search needs in
-    rw (slots-byte _ w, page-short _ _ w (s .pre .1)) (
-      run-ready _ _ w (s .pre .1) long seats,
-      (c .before .before .before .before .before .before .before .before .before .before .before .nears .ensures, c .before .before .before .before .before .before .before .keys .ensures),
+    let s = c .before .before .before .before .before .before .before .before .before .before .before .before .before in
+    let w = s .pre .0 .0 in
+    let long : length (s .args .self .layer) ≡ 1024 = search needs in
+    let seats : length (s .args .self .held) ≡ 64 = search needs in
+    rw (slots-byte _ w, page-short _ _ w (s .pre .0 .1)) (
+      run-ready _ _ w (s .pre .0 .1) long seats,
+      (c .before .before .before .before .before .before .before .before .nears .ensures, rw (c .before .before .before .before .before .before .keys .ensures) (keys-length _ _ _ (w .slots .1))),
     )
 
-add-self : tie.Need-add-self
-add-self c =
-    let s = c .before .before .before .before .before .before .before .before .before .before .before .before .before .before .before .before .before in
-    omega (arith, counts-fit _ _ (getD (s .args .t1 .layer) (s .args .page) 0) (s .pre .0) (s .pre .2) (c .before .before .before .before .before .before .before .new-page .ensures))
-
-add-self-2 : tie.Need-add-self-2
-add-self-2 c =
-    let s = c .before .before .before .before .before .before .before .before .before .before .before .before .before .before .before .before .before in
-    omega (arith, counts-fit _ _ (getD (s .args .t1 .layer) (s .args .page) 0) (s .pre .0) (s .pre .2) (c .before .before .before .before .before .before .before .new-page .ensures))
-
-enum-known-event : tie.Need-enum-known-event
-enum-known-event c = search needs
-
-add-self-3 : tie.Need-add-self-3
-add-self-3 c =
-    let s = c .before .before .before .before .before .before .before .before .before .before .before .before .before .before .before .before .before .before .before .before in
-    omega (arith, counts-fit _ _ (getD (s .args .t1 .layer) (s .args .page) 0) (s .pre .0) (s .pre .2) (c .before .before .before .before .before .before .before .before .before .before .new-page .ensures))
-
-enum-known-event-2 : tie.Need-enum-known-event-2
-enum-known-event-2 c = search needs
-
-add-self-4 : tie.Need-add-self-4
-add-self-4 c =
-    let s = c .before .before .before .before .before .before .before .before .before .before .before .before .before .before .before .before .before .before .before .before in
-    omega (arith, counts-fit _ _ (getD (s .args .t1 .layer) (s .args .page) 0) (s .pre .0) (s .pre .2) (c .before .before .before .before .before .before .before .before .before .before .new-page .ensures))
-
-enum-known-event-3 : tie.Need-enum-known-event-3
-enum-known-event-3 c = search needs
+counted-requires : tie.Need-counted-requires
+counted-requires c κs =
+    let s = c .before .before .before .before .before .before .before .before .before .before .before .before .before .before .before in
+    counts-room _ (run-counts _ (s .pre .0 .0)) (s .pre .0 .2) _ (getD (s .args .self .layer) (s .args .page) 0) (c .before .before .before .before .before .before .before .new-page .ensures)
 
 returns : tie.Need-returns
+unfolding next-run
 returns c =
-    let s = c .before .before .before .before .before .before .before .before .before .before .before .before .before .before .before .before .before .before .before .before in
-    let w = s .pre .0 in
-    serve-answer _ _ _ _ _ _ _ _ _ w (s .pre .1)
-    (c .before .before .before .before .before .before .before .before .before .before .new-page .ensures)
-    (rw (slots-byte _ w, page-short _ _ w (s .pre .1)) at (c .before .before .before .step .ensures))
-    (hit-answered _ _ _ _ _ _ (c .before .event .given .1))
-
-returns-2 : tie.Need-returns-2
-returns-2 c =
-    let s = c .before .before .before .before .before .before .before .before .before .before .before .before .before .before .before .before .before .before .before .before in
-    let w = s .pre .0 in
-    serve-answer _ _ _ _ _ _ _ _ _ w (s .pre .1)
-    (c .before .before .before .before .before .before .before .before .before .before .new-page .ensures)
-    (rw (slots-byte _ w, page-short _ _ w (s .pre .1)) at (c .before .before .before .step .ensures))
-    (miss-answered _ _ _ _ _ _ _ (c .before .event2 .given .1))
-
-returns-3 : tie.Need-returns-3
-returns-3 c =
-    let s = c .before .before .before .before .before .before .before .before .before .before .before .before .before .before .before .before .before .before .before .before in
-    let w = s .pre .0 in
-    absurd
-    (step-not-refused _ w _ (s .pre .1) (s .pre .2)
-    (rw (slots-byte _ w, page-short _ _ w (s .pre .1)) at (c .before .before .before .step .ensures))
-    (c .before .event3 .given .1))
+    let s = c .before .before .before .before .before .before .before .before .before .before .before .before .before .before .before .before .before in
+    let w = s .pre .0 .0 in
+    step-taken _ _ _ _ _ _ _ _ _ _ _ _ w (s .pre .0 .1) (s .pre .1) (c .before .before .before .before .before .before .before .before .before .before .keys .ensures) refl (c .before .before .before .before .before .before .before .before .before .new-page .ensures)
+    (rw (slots-byte _ w, page-short _ _ w (s .pre .0 .1)) at (c .before .before .before .step .ensures))
+    (c .before .counted .ensures)
 
 pub serve-spec : {M : Type 1} → statement M
 serve-spec =
@@ -104,14 +72,8 @@ serve-spec =
     new-page-requires
     cast-step
     cast-step-2
+    mul-step
+    element-copy-out-step
     step-requires
-    add-self
-    add-self-2
-    enum-known-event
-    add-self-3
-    enum-known-event-2
-    add-self-4
-    enum-known-event-3
-    returns
-    returns-2
-    returns-3)
+    counted-requires
+    returns)

@@ -1,16 +1,16 @@
--- `layers::no_priority_from` meets its contract: `others` counts the entries passed that are not 0. Assumes nothing.
+-- `layers::no_number_from` meets its contract: `others` counts the entries passed that are not 0. Assumes nothing.
 use mathlib.Core.Logic.{inl, inr, ⊎-elim}
 use Prim.Native.Nat.{_-_, _≤_}
 use borrow.Author.Needs.{needs}
 use Rattle.layers.proofs.Passes.{Others, others-none, others-step, others-end}
-use Rattle.layers.proofs.no_priority_from.Statement.{statement}
-use Rattle.layers.proofs.no_priority_from.Tie as tie
+use Rattle.layers.proofs.no_number_from.Statement.{statement}
+use Rattle.layers.proofs.no_number_from.Tie as tie
 
 abbrev Inv-loop : tie.InvT-loop
-Inv-loop priority pages others₀ q₀ others q = (q ≤ 1024) × Others 0 pages priority q others
+Inv-loop numbers pages others₀ q₀ others q = (q ≤ 1024) × Others 0 pages numbers q others
 
 abbrev μ-loop : tie.MeasureT-loop
-μ-loop priority pages others₀ q₀ others q = 1024 - q
+μ-loop numbers pages others₀ q₀ others q = 1024 - q
 
 loop-holds : tie.Need-loop-holds Inv-loop μ-loop
 loop-holds c = (search needs, others-none _ _ _)
@@ -42,8 +42,8 @@ loop-again c = (
 returns : tie.Need-returns Inv-loop μ-loop
 returns c = others-end (c .before .loop .inv .1) (search needs)
 
-pub no-priority-from-spec : {M : Type 1} → statement M
-no-priority-from-spec =
+pub no-number-from-spec : {M : Type 1} → statement M
+no-number-from-spec =
     tie.close
     (tie.spec
     Inv-loop

@@ -1,9 +1,9 @@
--- `Run::new_page` meets its contract. Assumes nothing.
+-- `counts::new_page` meets its contract. Assumes nothing.
 use Prim.Native.Nat.{_-_}
 use borrow.Author.Needs.{needs}
 use borrow.Author.Tests.{eq-eqb, ne-eqb}
-use Rattle.run.proofs.Run.new_page.Statement.{statement}
-use Rattle.run.proofs.Run.new_page.Tie as tie
+use Rattle.counts.proofs.new_page.Statement.{statement}
+use Rattle.counts.proofs.new_page.Tie as tie
 
 returns : tie.Need-returns
 returns c = rw (eq-eqb (c .before .args .layer) 0 (search needs))

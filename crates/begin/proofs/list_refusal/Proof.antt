@@ -1,10 +1,10 @@
--- `Run::list_refusal` meets its contract, by its tests in their order. Assumes nothing.
+-- `begin::list_refusal` meets its contract, by its tests in their order. Assumes nothing.
 use mathlib.Core.Path.{sym, _∙_}
 use borrow.Author.Needs.{needs}
 use borrow.Author.Tests.{not-true, not-false}
-use Rattle.run.specs.Starting.{refuse-limits, refuse-entries, refuse-below, refuse-different, refuse-nothing}
-use Rattle.run.proofs.Run.list_refusal.Statement.{statement}
-use Rattle.run.proofs.Run.list_refusal.Tie as tie
+use Rattle.begin.specs.RefusalLaws.{refuse-limits, refuse-entries, refuse-below, refuse-different, refuse-nothing}
+use Rattle.begin.proofs.list_refusal.Statement.{statement}
+use Rattle.begin.proofs.list_refusal.Tie as tie
 
 limits-refusal-requires : tie.Need-limits-refusal-requires
 limits-refusal-requires c κs = search needs
