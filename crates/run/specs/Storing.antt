@@ -1,8 +1,8 @@
 -- The image reader and writer as the code takes them. Assumes nothing.
 use mathlib.Core.Bool.{Bool, true, false, _&&_}
 use mathlib.Core.List.{List}
-use mathlib.Core.Path.{_≡_, refl, sym, ap, _∙_}
-use mathlib.Core.Logic.{_⊎_, inl, inr}
+use mathlib.Core.Path.{_≡_, refl, sym, ap, subst, _∙_}
+use mathlib.Core.Logic.{_⊎_, inl, inr, ⊎-elim}
 use Prim.Native.Nat.{ℕ, _+_, _*_, _≤_, _<_}
 use native.Mathlib.Omega.{arith}
 use lib.Dec.{leb}
@@ -13,16 +13,22 @@ use Rattle.ranking.specs.Ranks.{fixed-ranks}
 use Rattle.run.specs.declared.Run.{Run}
 use Rattle.run.specs.declared.Reading.the-variants.{Accepted, Refused}
 use Rattle.run.specs.declared.Restored.{Restored}
+use Rattle.run.specs.declared.Served.{Served}
+use Rattle.serve.specs.declared.Event.the-variants.{Refused as Declined}
 use Rattle.run.specs.declared.Stored.{Stored}
 use Rattle.paging.specs.Sets.{_=?_, unless_give_else_}
-use Rattle.paging.specs.Tests.{truth}
+use Rattle.paging.specs.Tests.{truth, is, le-or-lt}
 use Rattle.words.specs.Words.{word-at, put}
 use Rattle.image.specs.Layout.{image-length, pages-in, slots-in, image-refusal, image-layers, image-slots}
 use Rattle.image.specs.Layout.{image-priorities, marks-agree}
 use Rattle.image.specs.Laws.{refusal-read}
 use Rattle.run.specs.Numbers.{layer, blank-run}
-use Rattle.run.specs.Sound.{sound}
-use Rattle.run.specs.Stored.{stored-bytes, image-counts, image-run, no-run, restored, restore-refusal, reading-number, image-of, store-refusal, stored}
+use Rattle.counts.specs.Counts.{most-served}
+use Rattle.run.specs.Sound.{Sound, sound}
+use Rattle.run.specs.Request.{requested, refused}
+use Rattle.run.specs.Requesting.{refuse-unsound, requested-refused}
+use Rattle.run.specs.Theorems.{refused-8, refused-9, never-refused}
+use Rattle.run.specs.Stored.{stored-bytes, image-counts, image-run, no-run, restored, restore-refusal, reading-number, image-of, store-refusal, stored, after-reading, requested-in}
 use Rattle.run.specs.SoundLaws.{sound-iff}
 
 -- ---- reading
@@ -129,6 +135,50 @@ module _ (b : List ℕ) (x : Run) (ex : x ≡ image-run b) where
 
   pub sound-in : sound x ≡ sound (image-run b)
   sound-in = ap sound ex
+
+-- ---- a request to the run in an image
+
+module _ (b : List ℕ) (p : ℕ) where
+  -- the reader refuses
+  pub in-refused :
+      (n : ℕ) (r : Run) (x : Served) →
+      r ≡ blank-run →
+      _≡_ {A = Restored} (record { run = r; event = Refused n }) (restored b) →
+      x ≡ refused r n →
+      x ≡ requested-in b p
+  unfolding requested-in after-reading
+  in-refused n r x er e ex =
+      ex ∙ subst (λ (y : Restored). refused r n ≡ after-reading (y .run) (y .event) p) e refl
+
+  -- it accepts, and the request is that of the run in the image
+  pub in-accepted :
+      (r : Run) (x : Served) →
+      _≡_ {A = Restored} (record { run = r; event = Accepted }) (restored b) →
+      x ≡ requested r p →
+      x ≡ requested-in b p
+  unfolding requested-in after-reading
+  in-accepted r x e ex =
+      ex ∙ subst (λ (y : Restored). requested r p ≡ after-reading (y .run) (y .event) p) e refl
+
+-- a request gets 1 exactly where the run is not sound
+pub one-unsound : (r : Run) (p : ℕ) → requested r p .event ≡ Declined 1 → sound r ≡ false
+one-unsound r p e = ⊎-elim (λ s. absurd (not-one s)) (λ f. f) (truth (sound r))
+  where
+    not-one : sound r ≡ true → ⊥
+    not-one s = ⊎-elim (λ h. eight h) (λ l. ⊎-elim (λ h. nine l h) (λ room. never-refused r w p l room 1 e) (le-or-lt most-served (r .counts .served))) (le-or-lt (r .pages) p)
+      where
+        w : Sound r
+        w = sound-iff r .0 s
+
+        eight : r .pages ≤ p → ⊥
+        eight h = let z : Declined 8 ≡ Declined 1 = sym (refused-8 r w p h) ∙ e in let o : _≡_ {A = ℕ} 8 1 = cc in omega arith
+
+        nine : p < r .pages → most-served ≤ r .counts .served → ⊥
+        nine l h = let z : Declined 9 ≡ Declined 1 = sym (refused-9 r w p l h) ∙ e in let o : _≡_ {A = ℕ} 9 1 = cc in omega arith
+
+pub not-one-sound : (r : Run) (p : ℕ) → (requested r p .event ≡ Declined 1 → ⊥) → sound r ≡ true
+not-one-sound r p ne =
+    is (sound r) (λ f. ne (sym (ap (λ (s : Served). s .event) (requested-refused r p 1 (refuse-unsound r p f) (λ z. omega arith)))))
 
 -- ---- writing
 

@@ -411,8 +411,10 @@ impl Run {
         }
         let served = self.request(page);
         let event = served.event;
-        if let Event::Refused { number: 1 } = event {
-            return Run::blank().refused(1);
+        if let Event::Refused { number } = event {
+            if number == 1 {
+                return Run::blank().refused(1);
+            }
         }
         served
     }

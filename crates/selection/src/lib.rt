@@ -62,12 +62,7 @@ fn kept(keys: [Key; 1024], set: [bool; 1024], pages: usize, j: usize) -> [bool; 
 }
 
 // The selection: C_1 to C_k, one after the other.
-pub fn selected(
-    layer: [u8; 1024],
-    keys: [Key; 1024],
-    pages: usize,
-    slots: usize,
-) -> [bool; 1024]
+pub fn selected(layer: [u8; 1024], keys: [Key; 1024], pages: usize, slots: usize) -> [bool; 1024]
     requires { ⌜ (pages ≤ 1024) × (slots ≤ 64) ⌝ }
     ensures { λ r. ⌜ r ≡ marks pages (chosen pages (by-key (key-at keys)) (layers layer) slots) ⌝ }
 {

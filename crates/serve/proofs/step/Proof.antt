@@ -18,7 +18,7 @@ enum-told c = search needs
 
 swap-requires : tie.Need-swap-requires
 swap-requires c κs =
-    let s = c .before .before .before .before .before .before .before .before  in (
+    let s = c .before .before .before .before .before .before .before .before in (
       s .pre .0,
       (s .pre .1, away _ _ _ (sym (c .before .before .before .before .enum-told .given .1) ∙ c .before .before .before .before .before .before .find .ensures)),
     )
@@ -39,19 +39,19 @@ element-copy-out-if1 c = search needs
 
 returns-2 : tie.Need-returns-2
 returns-2 c =
-    let s = c .before .before .before .before .before .before .before  in
+    let s = c .before .before .before .before .before .before .before in
     unmoved (s .pre .0) (s .pre .1 .0) _
     (sym (c .before .before .before .place .given .1) ∙ c .before .before .before .before .before .find .ensures)
     (c .if1 .taken)
 
 settle-requires : tie.Need-settle-requires
 settle-requires c κs =
-    let s = c .before .before .before .before .before .before .before .before .before  in
+    let s = c .before .before .before .before .before .before .before .before .before in
     settles (s .pre .0) (s .pre .1 .0) _ (here _ _ _ _ (sym (c .before .before .before .before .before .place .given .1) ∙ c .before .before .before .before .before .before .before .find .ensures))
 
 returns-3 : tie.Need-returns-3
 returns-3 c =
-    let s = c .before .before .before .before .before .before .before .before .before .before  in
+    let s = c .before .before .before .before .before .before .before .before .before .before in
     stayed (s .pre .0) (s .pre .1 .0) _ _ _
     (sym (c .before .before .before .before .before .before .place .given .1) ∙ c .before .before .before .before .before .before .before .before .find .ensures)
     (c .settle .ensures .0)
