@@ -1,4 +1,4 @@
--- What the board's calls leave, by the event of the request and by what the image reader said. Assumes nothing.
+-- What the board's calls leave, by the event of the request. Assumes nothing.
 use mathlib.Core.List.{List, [], _∷_}
 use mathlib.Core.Logic.{⊎-elim}
 use mathlib.Core.Path.{_≡_, refl, sym, ap, _∙_}
@@ -13,14 +13,9 @@ use Rattle.serve.proofs.Event.{the-type}
 use Rattle.words.specs.Words.{put}
 use Rattle.image.specs.Layout.{image-length}
 use Rattle.run.specs.declared.Served.{Served}
-use Rattle.run.specs.declared.Restored.{Restored}
-use Rattle.run.specs.declared.Reading.the-variants.{Accepted, Refused as Unread}
 use Rattle.run.specs.Numbers.{layer}
-use Rattle.run.specs.Sound.{Sound}
-use Rattle.run.specs.Request.{requested}
-use Rattle.run.specs.Stored.{restored, image-of}
-use Rattle.board.specs.Laws.{taken, request-fits}
-use Rattle.board.specs.Board.{Fits, packed, image-after, answer-of, image-of-reading, board-answer, board-image}
+use Rattle.run.specs.Stored.{image-of, requested-in}
+use Rattle.board.specs.Board.{Fits, Settles, packed, image-after, board-answer, board-image}
 
 -- ---- the image after a request
 
@@ -48,38 +43,20 @@ write-fits b s f =
       λ q l. omega (arith, w .layers q l, w .slots .1),
     )
 
--- ---- the answer, and the image, by what the reader said
+-- what a hit or a miss asks for
+pub unrefused : (b : List ℕ) (s : Served) (e : Event) → Settles b s e → OneOf (0 ∷ 1 ∷ []) (tagOf the-type e) → Fits b s
+unfolding Settles
+unrefused b s (Hit slot) f k = f
+unrefused b s (Miss slot victim) f k = f
+unrefused b s (Refused n) f k = absurd (⊎-elim (λ z. omega arith) (λ z. omega arith) k)
 
-pub read-sound : (b : List ℕ) (r : Restored) → r ≡ restored b → r .event ≡ Accepted → Sound (r .run)
-read-sound b r told h = rw told (taken b (ap (λ (x : Restored). x .event) (sym told) ∙ h) .sound-is)
+-- ---- the answer, and the image
 
-module _ (b : List ℕ) (page : ℕ) (r : Restored) (told : r ≡ restored b) where
-  module _ (n : ℕ) (h : r .event ≡ Unread n) where
-    unread : restored b .event ≡ Unread n
-    unread = ap (λ (x : Restored). x .event) (sym told) ∙ h
+module _ (b : List ℕ) (page : ℕ) (s : Served) (told : s ≡ requested-in b page) where
+  pub answered : (a : ℕ) → a ≡ packed (s .event) → a ≡ board-answer b page
+  unfolding board-answer
+  answered a e = e ∙ ap (λ (x : Served). packed (x .event)) told
 
-    pub unread-answer : (a : ℕ) → a ≡ packed (Refused n) → a ≡ board-answer b page
-    unfolding board-answer answer-of
-    unread-answer a e = rw unread e
-
-    pub unread-image : b ≡ board-image b page
-    unfolding board-image image-of-reading
-    unread-image = rw unread
-
-  module _ (h : r .event ≡ Accepted) (s : Served) (answer : s ≡ requested (r .run) page) where
-    accepted : restored b .event ≡ Accepted
-    accepted = ap (λ (x : Restored). x .event) (sym told) ∙ h
-
-    same : s ≡ requested (restored b .run) page
-    same = answer ∙ ap (λ (x : Restored). requested (x .run) page) told
-
-    pub read-fits : Fits b s
-    read-fits = rw same (request-fits b page (taken b accepted))
-
-    pub read-answer : (a : ℕ) → a ≡ packed (s .event) → a ≡ board-answer b page
-    unfolding board-answer answer-of
-    read-answer a e = rw (accepted, ← same) e
-
-    pub read-image : (after : List ℕ) → after ≡ image-after b s (s .event) → after ≡ board-image b page
-    unfolding board-image image-of-reading
-    read-image after e = rw (accepted, ← same) e
+  pub imaged : (after : List ℕ) → after ≡ image-after b s (s .event) → after ≡ board-image b page
+  unfolding board-image
+  imaged after e = e ∙ ap (λ (x : Served). image-after b x (x .event)) told

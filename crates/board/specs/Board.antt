@@ -11,11 +11,8 @@ use Rattle.serve.specs.Event.{values}
 use Rattle.board.specs.declared.Parts.{Parts}
 use Rattle.image.specs.Layout.{image-length}
 use Rattle.run.specs.declared.Served.{Served}
-use Rattle.run.specs.declared.Reading.{Reading}
-use Rattle.run.specs.declared.Reading.the-variants.{Accepted, Refused as Unread}
 use Rattle.run.specs.Sound.{Sound}
-use Rattle.run.specs.Request.{requested}
-use Rattle.run.specs.Stored.{restored, image-of}
+use Rattle.run.specs.Stored.{image-of, requested-in}
 
 -- The answer is one number: victim in bits 0 to 9 (0 on a hit), slot in bits 10 to 15, bit 16 set on a miss, refusal in bits
 -- 24 to 31, all else 0.
@@ -44,17 +41,15 @@ pub record Fits (b : List ℕ) (s : Served) : Type 0 where
   pub total : length b ≡ image-length (s .run .pages) (s .run .slots)
   pub small : Small (s .event)
 
--- Refusals: image reader's, then request's.
-unfoldable pub answer-of : Reading → Served → ℕ
-answer-of Accepted s = packed (s .event)
-answer-of (Unread n) s = packed (Refused n)
+-- Nothing is packed but its number, and nothing written, beside a refusal.
+unfoldable pub Settles : List ℕ → Served → Event → Type 0
+Settles b s (Hit slot) = Fits b s
+Settles b s (Miss slot victim) = Fits b s
+Settles b s (Refused n) = Unit {0}
 
-unfoldable pub image-of-reading : List ℕ → Reading → Served → List ℕ
-image-of-reading b Accepted s = image-after b s (s .event)
-image-of-reading b (Unread n) s = b
-
+-- Refusals: image reader's, then request's (`requested-in`).
 unfoldable pub board-answer : List ℕ → ℕ → ℕ
-board-answer b page = answer-of (restored b .event) (requested (restored b .run) page)
+board-answer b page = packed (requested-in b page .event)
 
 unfoldable pub board-image : List ℕ → ℕ → List ℕ
-board-image b page = image-of-reading b (restored b .event) (requested (restored b .run) page)
+board-image b page = image-after b (requested-in b page) (requested-in b page .event)

@@ -8,23 +8,24 @@ use native.Mathlib.Omega.{arith}
 use lib.Dec.{eqb}
 use lib.ListN.{length}
 use borrow.Author.Tests.{eqb-true, eqb-false}
-use Rattle.serve.specs.declared.Event.the-variants.{Refused}
+use Rattle.serve.specs.declared.Event.{Event}
+use Rattle.serve.specs.declared.Event.the-variants.{Hit, Miss, Refused}
 use Rattle.run.specs.declared.Run.{Run}
 use Rattle.run.specs.declared.Served.{Served}
 use Rattle.run.specs.declared.Reading.the-variants.{Accepted, Refused as Unread}
 use Rattle.paging.specs.Tests.{truth, same-or-not}
 use Rattle.image.specs.Layout.{image-length, pages-in, slots-in, image-refusal, marks-agree}
 use Rattle.image.specs.Laws.{Read, refusal-read}
-use Rattle.run.specs.Numbers.{most-served}
+use Rattle.counts.specs.Counts.{most-served}
 use Rattle.run.specs.Sound.{Sound, sound}
 use Rattle.run.specs.SoundLaws.{sound-iff}
 use Rattle.run.specs.Request.{requested}
 use Rattle.run.specs.Requesting.{request-refusal, not-refused, requested-refused}
 use Rattle.run.specs.RequestLaws.{slot-holds, victim-in}
-use Rattle.run.specs.Stored.{image-run, restored}
+use Rattle.run.specs.Stored.{image-run, restored, after-reading, requested-in}
 use Rattle.run.specs.Storing.{run-pages, run-slots}
 use Rattle.run.specs.Theorems.{IsHit, IsMiss, hit-or-miss, request-is-sound, pages-stay, slots-stay}
-use Rattle.board.specs.Board.{Small, Fits}
+use Rattle.board.specs.Board.{Small, Fits, Settles}
 
 -- ---- an image that the reader accepts
 
@@ -79,7 +80,7 @@ taken b h = ⊎-elim (λ t. t .1) (λ u. absurd (other (u .0) (u .1))) (taken-or
 
 abbrev pub ServedOrNot : Run → ℕ → Type 0
 ServedOrNot r p =
-    ((p < r .pages) × (r .served < most-served) × (IsHit r p ⊎ ((v : ℕ) × IsMiss r p v)))
+    ((p < r .pages) × (r .counts .served < most-served) × (IsHit r p ⊎ ((v : ℕ) × IsMiss r p v)))
     ⊎ ((n : ℕ) × (_≡_ {A = Served} (requested r p) (record { run = r; event = Refused n; best = 0 })) × (0 < n))
 
 pub served-or-not : (r : Run) (p : ℕ) → Sound r → ServedOrNot r p
@@ -135,3 +136,22 @@ request-fits b p t =
       total = rw (request-pages r p w, request-slots r p w) (t .total);
       small = small-event r p w;
     }
+
+-- So of what the board's request answers: the reader's refusal, or what comes of the request.
+fits-any : (b : List ℕ) (x : Served) (k : Event) → Fits b x → Settles b x k
+unfolding Settles
+fits-any b x (Hit slot) f = f
+fits-any b x (Miss slot victim) f = f
+fits-any b x (Refused n) f = tt
+
+read-settles : (b : List ℕ) (p : ℕ) → restored b .event ≡ Accepted → Taken b → Settles b (requested-in b p) (requested-in b p .event)
+unfolding requested-in after-reading
+read-settles b p h t = rw h (fits-any b (requested (restored b .run) p) (requested (restored b .run) p .event) (request-fits b p t))
+
+unread-settles : (b : List ℕ) (p n : ℕ) → restored b .event ≡ Unread n → Settles b (requested-in b p) (requested-in b p .event)
+unfolding requested-in after-reading Settles
+unread-settles b p n h = rw h tt
+
+pub settles : (b : List ℕ) (p : ℕ) (s : Served) → s ≡ requested-in b p → Settles b s (s .event)
+settles b p s e =
+    rw e (⊎-elim (λ t. read-settles b p (t .0) (t .1)) (λ u. unread-settles b p (u .0) (u .1)) (taken-or-not b))

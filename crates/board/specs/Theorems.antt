@@ -18,17 +18,17 @@ use Rattle.words.specs.Laws.{Bytes, take-bytes, drop-bytes, number-below, put-a
 use Rattle.image.specs.Layout.{pages-in, slots-in, image-layers, image-slots, image-priorities}
 use Rattle.image.specs.Laws.{Read, read-room}
 use Rattle.image.specs.Theorems.{stored-length, stored-bytes}
-use Rattle.run.specs.Numbers.{most-served}
+use Rattle.counts.specs.Counts.{most-served}
 use Rattle.run.specs.Cached.{slot-of}
 use Rattle.run.specs.Sound.{Sound}
 use Rattle.run.specs.Request.{requested}
-use Rattle.run.specs.Stored.{image-run, restored, image-of}
+use Rattle.run.specs.Stored.{image-counts, image-run, restored, image-of, after-reading, requested-in}
 use Rattle.run.specs.StoredTheorems.{Typed, storable, stored-reads-back, typed-request}
 use Rattle.run.specs.Theorems.{IsHit, IsMiss, request-is-sound}
 use Rattle.serve.specs.declared.Event.{Event}
 use Rattle.serve.specs.Event.{Values, values}
 use Rattle.board.specs.declared.Parts.{Parts}
-use Rattle.board.specs.Board.{Small, packed, apart, image-after, answer-of, image-of-reading, board-answer, board-image}
+use Rattle.board.specs.Board.{Small, packed, apart, image-after, board-answer, board-image}
 use Rattle.board.specs.Laws.{Taken, taken-or-not, served-or-not, request-fits}
 
 -- ---- A packed answer, taken apart, gives this paper's values of its event.
@@ -57,7 +57,7 @@ pub record Kept (b : List ℕ) (page : ℕ) : Type 0 where
 pub record Moved (b : List ℕ) (page : ℕ) : Type 0 where
   pub taken-is : Taken b
   pub below : page < restored b .run .pages
-  pub room : restored b .run .served < most-served
+  pub room : restored b .run .counts .served < most-served
   pub answer : board-answer b page < 16777216
   pub image : board-image b page ≡ image-of (requested (restored b .run) page .run)
 
@@ -66,7 +66,7 @@ next-length : (b : List ℕ) (page : ℕ) → Taken b → length (image-of (requ
 unfolding image-of
 next-length b page t =
     let r = requested (restored b .run) page .run in
-    stored-length (r .pages) (r .slots) (r .served) (r .hits) (r .misses) (r .best) (r .layer) (r .priority) (r .held)
+    stored-length (r .pages) (r .slots) (r .counts .served) (r .counts .hits) (r .counts .misses) (r .counts .best) (r .layer) (r .ranks .priority) (r .held)
     ∙ sym (request-fits b page t .total)
 
 next-put :
@@ -80,17 +80,17 @@ module _ (b : List ℕ) (page : ℕ) where
   r = restored b .run
 
   unread : (n : ℕ) → restored b .event ≡ Unread n → 0 < n → Kept b page
-  unfolding board-answer board-image answer-of image-of-reading packed values
+  unfolding board-answer board-image requested-in after-reading image-after packed values
   unread n e pos = record { number = n; some-number = pos; answer = rw e (omega arith); image = rw e }
 
   module _ (e : restored b .event ≡ Accepted) (t : Taken b) where
     refused : (n : ℕ) → requested r page .event ≡ Refused n → 0 < n → Kept b page
-    unfolding board-answer board-image answer-of image-of-reading image-after packed values
+    unfolding board-answer board-image requested-in after-reading image-after packed values
     refused n h pos = record { number = n; some-number = pos; answer = rw (e, h) (omega arith); image = rw (e, h) }
 
     moved :
         page < r .pages →
-        r .served < most-served →
+        r .counts .served < most-served →
         board-answer b page < 16777216 →
         board-image b page ≡ put b 0 (image-of (requested r page .run)) →
         Moved b page
@@ -100,14 +100,14 @@ module _ (b : List ℕ) (page : ℕ) where
     small : Small (requested r page .event)
     small = request-fits b page t .small
 
-    hit : page < r .pages → r .served < most-served → IsHit r page → Moved b page
-    unfolding board-answer board-image answer-of image-of-reading image-after packed values Small
+    hit : page < r .pages → r .counts .served < most-served → IsHit r page → Moved b page
+    unfolding board-answer board-image requested-in after-reading image-after packed values Small
     hit l room h =
         let s : slot-of r page < 64 = rw (h .event) at small in
         moved l room (rw (e, h .event) (omega arith)) (rw (e, h .event))
 
-    miss : page < r .pages → r .served < most-served → (v : ℕ) → IsMiss r page v → Moved b page
-    unfolding board-answer board-image answer-of image-of-reading image-after packed values Small
+    miss : page < r .pages → r .counts .served < most-served → (v : ℕ) → IsMiss r page v → Moved b page
+    unfolding board-answer board-image requested-in after-reading image-after packed values Small
     miss l room v m =
         let s : (slot-of r v < 64) × (v < 1024) = rw (m .event) at small in
         moved l room (rw (e, m .event) (omega arith)) (rw (e, m .event))
@@ -168,7 +168,7 @@ image-wide b byte read q =
 
 -- The run in an accepted image has the types of a run.
 pub image-typed : (b : List ℕ) → Bytes b → Taken b → Typed (restored b .run)
-unfolding image-run image-layers image-slots image-priorities
+unfolding image-run image-counts image-layers image-slots image-priorities
 image-typed b byte t =
     rw (t .run-is)
     (record {
@@ -188,7 +188,7 @@ image-typed b byte t =
 image-of-bytes : (r : Run) → Sound r → Typed r → Bytes (image-of r)
 unfolding image-of
 image-of-bytes r w t =
-    stored-bytes (r .pages) (r .slots) (r .served) (r .hits) (r .misses) (r .best) (r .layer) (r .priority) (r .held) (storable r w t)
+    stored-bytes (r .pages) (r .slots) (r .counts .served) (r .counts .hits) (r .counts .misses) (r .counts .best) (r .layer) (r .ranks .priority) (r .held) (storable r w t)
 
 module _ (b : List ℕ) (page : ℕ) (byte : Bytes b) where
   next-typed : Moved b page → Typed (requested (restored b .run) page .run)

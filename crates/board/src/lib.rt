@@ -1,7 +1,6 @@
 // The entry for the board's C program: one request to the run in an image. Assumes nothing.
 ghost use mathlib.Core.Path.{_≡_};
-ghost use Rattle.board.specs.Board.{Small, Fits, packed, apart, image-after, board-answer, board-image};
-use run::Reading;
+ghost use Rattle.board.specs.Board.{Small, Settles, packed, apart, image-after, board-answer, board-image};
 use run::Run;
 use run::Served;
 use serve::Event;
@@ -42,7 +41,7 @@ fn pack(event: Event) -> u32
 
 // Packs the answer of a request and, unless it is refused, writes the next run over the image.
 fn settle(image: &mut [u8], served: Served) -> u32
-    requires { ⌜ Fits (now image) served ⌝ }
+    requires { ⌜ Settles (now image) served (served .event) ⌝ }
     ensures answer { λ r. ⌜ r ≡ packed (served .event) ⌝ }
     ensures bytes { λ _. ⌜ now (image .exit) ≡ image-after (now (image .entry)) served (served .event) ⌝ }
 {
@@ -55,12 +54,12 @@ fn settle(image: &mut [u8], served: Served) -> u32
         image,
         run.pages,
         run.slots,
-        run.served,
-        run.hits,
-        run.misses,
-        run.best,
+        run.counts.served,
+        run.counts.hits,
+        run.counts.misses,
+        run.counts.best,
         &run.layer,
-        &run.priority,
+        &run.ranks.priority,
         &run.held,
     );
     pack(event)
@@ -72,10 +71,5 @@ pub extern "C" fn timonedra_serve(image: &mut [u8], page: u32) -> u32
     ensures answer { λ r. ⌜ r ≡ board-answer (now (image .entry)) page ⌝ }
     ensures bytes { λ _. ⌜ now (image .exit) ≡ board-image (now (image .entry)) page ⌝ }
 {
-    let restored = Run::blank().restore(image);
-    let reading = restored.event;
-    match reading {
-        Reading::Accepted => settle(image, restored.run.request_of_sound(page as usize)),
-        Reading::Refused { number } => pack(Event::Refused { number }),
-    }
+    settle(image, Run::blank().request_in(image, page as usize))
 }

@@ -8,7 +8,7 @@ use Rattle.words.specs.Words.{words, word-at, put}
 use Rattle.begin.specs.Limits.{limits-refusal}
 use Rattle.begin.specs.Begin.{below, different}
 use Rattle.run.specs.Numbers.{blank-run}
-use Rattle.run.specs.Start.{start-run, started}
+use Rattle.run.specs.Start.{listed-run, started}
 use Rattle.trace.specs.declared.Traced.{Traced}
 use Rattle.trace.specs.declared.Written.{Written}
 
@@ -75,7 +75,7 @@ unfoldable pub traced : List ℕ → Traced
 traced b =
     if trace-refusal b =? 0
     then record {
-      run = start-run (pages-in b) (slots-in b) (list-in b) (priorities-in b);
+      run = listed-run (pages-in b) (slots-in b) (list-in b) (priorities-in b);
       requests = requests-in b;
       offset = request-offset b;
       refusal = 0;

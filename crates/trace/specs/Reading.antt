@@ -18,7 +18,7 @@ use Rattle.begin.specs.Begin.{below, different}
 use Rattle.begin.specs.LimitLaws.{Limits, limits-hold, pages-within, slots-within}
 use Rattle.run.specs.declared.Started.{Started}
 use Rattle.run.specs.Numbers.{blank-run}
-use Rattle.run.specs.Start.{start-run, started}
+use Rattle.run.specs.Start.{listed-run, started}
 use Rattle.run.specs.StartLaws.{accepted}
 use Rattle.trace.specs.declared.Traced.{Traced}
 use Rattle.trace.specs.Layout.{most-requests, trace-length, pages-in, slots-in, requests-in}
@@ -279,7 +279,7 @@ module _ (b : List ℕ) (N k T : ℕ) (eN : N ≡ pages-in b) (ek : k ≡ slots-
         read-told ok =
             let none : trace-refusal b ≡ 0 = sym told ∙ ok in
             let fine : start-of b .refusal ≡ 0 = start-refuses b (sym z ∙ zero) ∙ none in
-            let run : s .run ≡ start-run (pages-in b) (slots-in b) (list-in b) (priorities-in b) =
+            let run : s .run ≡ listed-run (pages-in b) (slots-in b) (list-in b) (priorities-in b) =
             ap (λ (x : Started). x .run) began ∙ accepted (pages-in b) (slots-in b) (list-in b) (priorities-in b) fine .run in
             rw (none, run, eN, ek, eT)
 

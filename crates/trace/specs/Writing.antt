@@ -16,7 +16,9 @@ use Rattle.begin.specs.Begin.{start-priorities}
 use Rattle.run.specs.declared.Started.{Started}
 use Rattle.run.specs.Start.{started}
 use Rattle.run.specs.StartLaws.{accepted}
-use Rattle.run.specs.Starting.{list-refusal, refuse-limits, refused-list}
+use Rattle.begin.specs.Refusals.{list-refusal}
+use Rattle.begin.specs.RefusalLaws.{refuse-limits}
+use Rattle.run.specs.Starting.{refused-list}
 use Rattle.trace.specs.declared.Written.{Written}
 use Rattle.trace.specs.Layout.{most-requests, trace-header, trace-length, trace-bytes, write-refusal, written, written-bytes}
 use Rattle.trace.specs.Reading.{take-entries}

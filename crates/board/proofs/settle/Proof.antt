@@ -3,7 +3,7 @@ use mathlib.Core.Path.{sym, ap, _∙_}
 use borrow.Author.Needs.{needs}
 use Rattle.run.specs.Stored.{image-of}
 use Rattle.board.specs.Board.{Small, packed}
-use Rattle.board.proofs.Answers.{untouched, written, write-fits}
+use Rattle.board.proofs.Answers.{untouched, written, write-fits, unrefused}
 use Rattle.board.proofs.settle.Statement.{statement}
 use Rattle.board.proofs.settle.Tie as tie
 
@@ -21,10 +21,10 @@ returns c = (
 )
 
 write-requires : tie.Need-write-requires
-write-requires c κs = write-fits _ _ (c .before .before .before .before .before .before .before .before .pre)
+write-requires c κs = write-fits _ _ (unrefused _ _ _ (c .before .before .before .before .before .before .before .before .pre) (c .before .before .before .before .before .before .match .keys2))
 
 pack-requires-2 : tie.Need-pack-requires-2
-pack-requires-2 c κs = c .before .before .before .before .before .before .before .before .before .before .before .pre .small
+pack-requires-2 c κs = unrefused _ _ _ (c .before .before .before .before .before .before .before .before .before .before .before .pre) (c .before .before .before .before .before .before .before .before .before .match .keys2) .small
 
 same-length : tie.Need-same-length
 same-length c = search needs
