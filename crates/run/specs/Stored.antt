@@ -40,6 +40,10 @@ image-run b =
       held = image-slots (pages-in b) (slots-in b) b;
     }
 
+-- The run that an image describes, sound or not: the blank run where its length or header is wrong.
+unfoldable pub image-described : List ℕ → Run
+image-described b = if image-refusal b =? 0 then image-run b else blank-run
+
 -- A refused image reader hands back the blank run.
 abbrev pub no-run : ℕ → Restored
 no-run n = record { run = blank-run; event = Refused n }

@@ -28,7 +28,7 @@ use Rattle.run.specs.Sound.{Sound, sound}
 use Rattle.run.specs.Request.{requested, refused}
 use Rattle.run.specs.Requesting.{refuse-unsound, requested-refused}
 use Rattle.run.specs.Theorems.{refused-8, refused-9, never-refused}
-use Rattle.run.specs.Stored.{stored-bytes, image-counts, image-run, no-run, restored, restore-refusal, reading-number, image-of, store-refusal, stored, after-reading, requested-in}
+use Rattle.run.specs.Stored.{stored-bytes, image-counts, image-run, image-described, no-run, restored, restore-refusal, reading-number, image-of, store-refusal, stored, after-reading, requested-in}
 use Rattle.run.specs.SoundLaws.{sound-iff}
 
 -- ---- reading
@@ -119,6 +119,14 @@ pub image-run-is :
 unfolding image-run image-counts
 image-run-is b N k served hits misses best layers priorities slots ranks en ek es eh em eb el ep er eo =
     rw (er, el, ep, eo, en, ek, es, eh, em, eb)
+
+pub described-is : (b : List ℕ) → image-refusal b ≡ 0 → image-described b ≡ image-run b
+unfolding image-described
+described-is b z = rw z
+
+pub described-blank : (b : List ℕ) → (image-refusal b ≡ 0 → ⊥) → blank-run ≡ image-described b
+unfolding image-described
+described-blank b ne = rw (ne-eqb (image-refusal b) 0 ne)
 
 -- the run of an image has the image's N and k
 module _ (b : List ℕ) (x : Run) (ex : x ≡ image-run b) where

@@ -16,7 +16,7 @@ ghost use Rattle.run.specs.Testing.{parts-sound};
 ghost use Rattle.run.specs.Request.{served, refused, requested, request-values, tried};
 ghost use Rattle.run.specs.Serving.{RunKeys};
 ghost use Rattle.run.specs.Questions.{refusal, layer-answer, certain-answer, selection-answer};
-ghost use Rattle.run.specs.Stored.{image-run, restored, restore-refusal, reading-number, store-refusal, stored, stored-bytes, requested-in};
+ghost use Rattle.run.specs.Stored.{image-run, image-described, restored, restore-refusal, reading-number, store-refusal, stored, stored-bytes, requested-in};
 use counts::Counts;
 use ranking::Key;
 use ranking::Ranks;
@@ -344,7 +344,7 @@ impl Run {
     }
 
     // The run in an image whose length and header are right.
-    fn in_image(image: &[u8]) -> Self
+    fn of_image(image: &[u8]) -> Self
         requires { ⌜ image-refusal (now image) ≡ 0 ⌝ }
         ensures { λ r. ⌜ r ≡ image-run (now (image .entry)) ⌝ }
     {
@@ -365,6 +365,16 @@ impl Run {
         }
     }
 
+    // The run that an image describes, sound or not; the blank run where its length or header is wrong.
+    pub fn in_image(image: &[u8]) -> Self
+        ensures { λ r. ⌜ r ≡ image-described (now (image .entry)) ⌝ }
+    {
+        if image::refusal(image, Run::MAX_PAGES, Run::MAX_SLOTS) != 0 {
+            return Run::blank();
+        }
+        Run::of_image(image)
+    }
+
     // Takes up the run in an image in this one's place. Refusals 13 (under 36), 2, 3, 15, 13 (total), 1: then the blank run.
     pub fn restore(mut self, image: &[u8]) -> Restored
         ensures answer { λ r. ⌜ r ≡ restored (now (image .entry)) ⌝ }
@@ -377,7 +387,7 @@ impl Run {
                 event: Reading::Refused { number },
             };
         }
-        self = Run::in_image(image);
+        self = Run::of_image(image);
         if !image::agree(image, self.pages, self.slots) {
             return Restored {
                 run: Run::blank(),
@@ -405,7 +415,7 @@ impl Run {
         if number != 0 {
             return Run::blank().refused(number);
         }
-        self = Run::in_image(image);
+        self = Run::of_image(image);
         if !image::agree(image, self.pages, self.slots) {
             return Run::blank().refused(1);
         }

@@ -1,79 +1,28 @@
--- `Run::in_image` meets its contract: the header has room for what is read. Assumes nothing.
-use Prim.Native.Nat.{_-_}
-use native.Mathlib.Omega.{arith}
+-- `Run::in_image` meets its contract, by the test of the header. Assumes nothing.
+use mathlib.Core.Path.{_≡_, sym, _∙_}
 use borrow.Author.Needs.{needs}
-use Rattle.run.specs.Storing.{image-fits, image-long, image-run-is}
+use Rattle.run.specs.Storing.{described-blank, described-is}
 use Rattle.run.proofs.Run.in_image.Statement.{statement}
 use Rattle.run.proofs.Run.in_image.Tie as tie
 
-read-u32-requires : tie.Need-read-u32-requires
-read-u32-requires c κs = omega (arith, image-long _ (c .before .pre))
+refusal-requires : tie.Need-refusal-requires
+refusal-requires c κs = search needs
 
-cast-pages : tie.Need-cast-pages
-cast-pages c = search needs
-
-read-u32-requires-2 : tie.Need-read-u32-requires-2
-read-u32-requires-2 c κs = omega (arith, image-long _ (c .before .before .pre))
-
-cast-slots : tie.Need-cast-slots
-cast-slots c = search needs
-
-read-u32-requires-3 : tie.Need-read-u32-requires-3
-read-u32-requires-3 c κs = omega (arith, image-long _ (c .before .before .before .pre))
-
-read-u32-requires-4 : tie.Need-read-u32-requires-4
-read-u32-requires-4 c κs = omega (arith, image-long _ (c .before .before .before .before .pre))
-
-read-u32-requires-5 : tie.Need-read-u32-requires-5
-read-u32-requires-5 c κs = omega (arith, image-long _ (c .before .before .before .before .before .pre))
-
-read-u32-requires-6 : tie.Need-read-u32-requires-6
-read-u32-requires-6 c κs = omega (arith, image-long _ (c .before .before .before .before .before .before .pre))
-
-layers-requires : tie.Need-layers-requires
-layers-requires c κs =
-    let f = image-fits _ _ _ (c .before .before .before .before .before .before .before .pre) (c .before .before .before .before .before .read-u32 .ensures) (c .before .before .before .before .read-u322 .ensures) in
-    (f .0, omega arith)
-
-priorities-requires : tie.Need-priorities-requires
-priorities-requires c κs = image-fits _ _ _ (c .before .before .before .before .before .before .before .before .pre) (c .before .before .before .before .before .before .read-u32 .ensures) (c .before .before .before .before .before .read-u322 .ensures)
-
-fixed-requires : tie.Need-fixed-requires
-fixed-requires c κs = search needs
-
-slots-requires : tie.Need-slots-requires
-slots-requires c κs =
-    let f = image-fits _ _ _ (c .before .before .before .before .before .before .before .before .before .before .pre) (c .before .before .before .before .before .before .before .before .read-u32 .ensures) (c .before .before .before .before .before .before .before .read-u322 .ensures) in
-    (f .0, f .1, omega arith)
+blank-requires : tie.Need-blank-requires
+blank-requires c κs = search needs
 
 returns : tie.Need-returns
-returns c =
-    image-run-is _ _ _ _ _ _ _ _ _ _ _
-    (c .before .before .before .before .before .before .before .before .before .read-u32 .ensures)
-    (c .before .before .before .before .before .before .before .before .read-u322 .ensures)
-    (c .before .before .before .before .before .before .before .read-u323 .ensures)
-    (c .before .before .before .before .before .before .read-u324 .ensures)
-    (c .before .before .before .before .before .read-u325 .ensures)
-    (c .before .before .before .before .read-u326 .ensures)
-    (c .before .before .before .layers .ensures)
-    (c .before .before .priorities .ensures)
-    (c .before .fixed .ensures)
-    (c .slots .ensures)
+returns c = c .blank .ensures ∙ described-blank _ (λ z. c .before .if1 .taken (c .before .before .refusal .ensures ∙ z))
+
+of-image-requires : tie.Need-of-image-requires
+of-image-requires c κs =
+    let z : c .before .refusal .result ≡ 0 = search needs in
+    sym (c .before .refusal .ensures) ∙ z
+
+returns-2 : tie.Need-returns-2
+returns-2 c =
+    let z : c .before .before .refusal .result ≡ 0 = search needs in
+    c .of-image .ensures ∙ sym (described-is _ (sym (c .before .before .refusal .ensures) ∙ z))
 
 pub in-image-spec : {M : Type 1} → statement M
-in-image-spec =
-    tie.close
-    (tie.spec
-    read-u32-requires
-    cast-pages
-    read-u32-requires-2
-    cast-slots
-    read-u32-requires-3
-    read-u32-requires-4
-    read-u32-requires-5
-    read-u32-requires-6
-    layers-requires
-    priorities-requires
-    fixed-requires
-    slots-requires
-    returns)
+in-image-spec = tie.close (tie.spec refusal-requires blank-requires returns of-image-requires returns-2)

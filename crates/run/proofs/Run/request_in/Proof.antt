@@ -25,15 +25,15 @@ returns c =
     (restored-refused _ _ (c .before .before .before .refusal .ensures) _ (search needs) (c .before .blank .ensures))
     (c .refused .ensures)
 
-in-image-requires : tie.Need-in-image-requires
-in-image-requires c κs =
+of-image-requires : tie.Need-of-image-requires
+of-image-requires c κs =
     let z : c .before .refusal .result ≡ 0 = search needs in
     sym (c .before .refusal .ensures) ∙ z
 
 agree-requires : tie.Need-agree-requires
 agree-requires c κs =
     let z : c .before .before .refusal .result ≡ 0 = search needs in
-    let e = c .in-image .ensures in
+    let e = c .of-image .ensures in
     let f = image-fits _ _ _ (sym (c .before .before .refusal .ensures) ∙ z) (run-pages _ _ e) (run-slots _ _ e) in
     (f .0, f .1, omega arith)
 
@@ -47,7 +47,7 @@ returns-2 : tie.Need-returns-2
 returns-2 c =
     in-refused _ _ _ _ _ (c .before .blank2 .ensures)
     (restored-unequal _ _ (c .before .before .before .before .before .before .refusal .ensures) (search needs) _
-    (sym (agree-in _ _ (c .before .before .before .before .in-image .ensures)) ∙ (sym (c .before .before .before .agree .ensures) ∙ not-true _ (c .before .before .if2 .taken)))
+    (sym (agree-in _ _ (c .before .before .before .before .of-image .ensures)) ∙ (sym (c .before .before .before .agree .ensures) ∙ not-true _ (c .before .before .if2 .taken)))
     (c .before .blank2 .ensures))
     (c .refused2 .ensures)
 
@@ -69,9 +69,9 @@ returns-3 c =
     let one = sym (ap (λ (s : Served). s .event) told) ∙ (c .before .before .before .before .event .given .1 ∙ ap Refused (c .before .before .if3 .taken)) in
     in-refused _ _ _ _ _ (c .before .blank3 .ensures)
     (restored-unsound _ _ (c .before .before .before .before .before .before .before .before .before .before .before .refusal .ensures) (search needs)
-    (sym (agree-in _ _ (c .before .before .before .before .before .before .before .before .before .in-image .ensures)) ∙ (sym (c .before .before .before .before .before .before .before .before .agree .ensures) ∙ not-false _ (c .before .before .before .before .before .before .before .if2 .left)))
+    (sym (agree-in _ _ (c .before .before .before .before .before .before .before .before .before .of-image .ensures)) ∙ (sym (c .before .before .before .before .before .before .before .before .agree .ensures) ∙ not-false _ (c .before .before .before .before .before .before .before .if2 .left)))
     _
-    (sym (sound-in _ _ (c .before .before .before .before .before .before .before .before .before .in-image .ensures)) ∙ one-unsound _ _ one)
+    (sym (sound-in _ _ (c .before .before .before .before .before .before .before .before .before .of-image .ensures)) ∙ one-unsound _ _ one)
     (c .before .blank3 .ensures))
     (c .refused3 .ensures)
 
@@ -81,9 +81,9 @@ returns-4 c =
     let sound-is = not-one-sound _ _ (λ e. other-refusal _ 1 (c .if3 .left) (sym (c .before .before .event .given .1) ∙ (ap (λ (s : Served). s .event) told ∙ e))) in
     in-accepted _ _ _ _
     (restored-accepted _ _ (c .before .before .before .before .before .before .before .before .before .refusal .ensures) (search needs)
-    (sym (agree-in _ _ (c .before .before .before .before .before .before .before .in-image .ensures)) ∙ (sym (c .before .before .before .before .before .before .agree .ensures) ∙ not-false _ (c .before .before .before .before .before .if2 .left)))
+    (sym (agree-in _ _ (c .before .before .before .before .before .before .before .of-image .ensures)) ∙ (sym (c .before .before .before .before .before .before .agree .ensures) ∙ not-false _ (c .before .before .before .before .before .if2 .left)))
     _
-    (c .before .before .before .before .before .before .before .in-image .ensures)
+    (c .before .before .before .before .before .before .before .of-image .ensures)
     sound-is)
     told
 
@@ -93,9 +93,9 @@ returns-5 c =
     let sound-is = not-one-sound _ _ (λ e. no-refusal _ 1 (c .match .keys2) (ap (λ (s : Served). s .event) told ∙ e)) in
     in-accepted _ _ _ _
     (restored-accepted _ _ (c .before .before .before .before .before .before .refusal .ensures) (search needs)
-    (sym (agree-in _ _ (c .before .before .before .before .in-image .ensures)) ∙ (sym (c .before .before .before .agree .ensures) ∙ not-false _ (c .before .before .if2 .left)))
+    (sym (agree-in _ _ (c .before .before .before .before .of-image .ensures)) ∙ (sym (c .before .before .before .agree .ensures) ∙ not-false _ (c .before .before .if2 .left)))
     _
-    (c .before .before .before .before .in-image .ensures)
+    (c .before .before .before .before .of-image .ensures)
     sound-is)
     told
 
@@ -107,7 +107,7 @@ request-in-spec =
     blank-requires
     refused-requires
     returns
-    in-image-requires
+    of-image-requires
     agree-requires
     blank-requires-2
     refused-requires-2
