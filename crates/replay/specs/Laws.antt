@@ -1,15 +1,19 @@
--- A turn is a request, and a loop of turns is the requests one after the other. Assumes nothing.
-use mathlib.Core.List.{List}
+-- A turn is a request, and a loop of turns is the requests one after the other, told as they come. Assumes nothing.
+use mathlib.Core.Bool.{Bool, true, false}
+use mathlib.Core.List.{List, [], _++_}
 use mathlib.Core.Logic.{⊎-elim}
 use mathlib.Core.Path.{_≡_, refl, sym, ap, subst, _∙_}
-use Prim.Native.Nat.{ℕ, suc, _+_, _≤_, _<_}
+use Prim.Native.Nat.{ℕ, suc, _+_, _*_, _-_, _≤_, _<_, min}
 use native.Mathlib.Omega.{arith}
 use lib.Dec.{eqb}
-use lib.ListN.{length, getD, set, drop, length-set}
+use lib.ListN.{length, getD, set, take, drop, length-set, length-append, length-drop}
+use lib.Seq.{drop-drop, take-length}
 use Rattle.paging.specs.Sets.{bit}
 use Rattle.paging.specs.Layers.{next}
 use Rattle.paging.specs.Tests.{le-or-lt}
-use Rattle.paging.specs.Tables.{table-length}
+use Rattle.paging.specs.Tables.{table-length, listed-same}
+use Rattle.words.specs.Words.{word-at, put}
+use Rattle.words.specs.Laws.{put-put, put-length, put-none}
 use Rattle.slots.specs.Slots.{near-of, keys-of}
 use Rattle.serve.specs.declared.Event.{Event}
 use Rattle.serve.specs.declared.Event.the-variants.{Hit, Miss, Refused}
@@ -26,10 +30,12 @@ use Rattle.run.specs.Requesting.{request-refusal, refuse-page, refuse-served, r
 use Rattle.run.specs.Serving.{answered, with-counts, run-ready, counts-fit, serve-answer}
 use Rattle.run.specs.Theorems.{never-refused, hit-or-miss, request-is-sound}
 use Rattle.trace.specs.Layout.{request-word}
-use Rattle.trace.specs.Reading.{asked, asked-next, asked-last}
+use Rattle.trace.specs.Reading.{asked, asked-next, asked-last, request-past, request-there}
+use Rattle.text.specs.Text.{event-line}
 use Rattle.replay.specs.declared.Counts.{Counts}
 use Rattle.replay.specs.declared.Turn.{Turn}
 use Rattle.replay.specs.Replay.{state, outcome, turned}
+use Rattle.replay.specs.Told.{event-lines, told-length, told-room, told-bytes}
 
 module _ (N k : ℕ) (c : Counts) (layer priority held : List ℕ) (w : Sound (state N k c layer priority held)) (p : ℕ) where
   abbrev r : Run
@@ -80,7 +86,7 @@ unfolding counted
 counted-long r p hit miss held l h =
     record { layers = table-length 1024 (r .pages) 0 _ l; slots = h }
 
-pub request-long : (r : Run) (p : ℕ) → Sound r → Long r → Long (requested r p .run)
+request-long : (r : Run) (p : ℕ) → Sound r → Long r → Long (requested r p .run)
 request-long r p w long = ⊎-elim past below (le-or-lt (r .pages) p)
   where
     refused-long : (n : ℕ) → n ≡ request-refusal r p → (n ≡ 0 → ⊥) → Long (requested r p .run)
@@ -103,9 +109,6 @@ request-long r p w long = ⊎-elim past below (le-or-lt (r .pages) p)
             let (v, i) = m in
             subst Long (sym (i .run)) (counted-long r p 0 1 (set (r .held) (slot-of r v) p) (w .pages .1) (length-set (r .held) (slot-of r v) p ∙ long .slots)))
             (hit-or-miss r w p l h)
-
-pub long-next : (r : Run) (p : ℕ) (s : Served) → s ≡ requested r p → Sound r → Long r → Long (s .run)
-long-next r p s e w long = rw e (request-long r p w long)
 
 -- ---- a loop of turns
 
@@ -152,3 +155,153 @@ module _ (start : Run) (b : List ℕ) (offset n : ℕ) where
     replaying-last l =
         let end : i ≡ n = omega (arith, now-is .reached) in
         rw (end, asked-last b offset n) at (now-is .left)
+
+-- ---- the requests of a file, in the part of it that begins with them
+
+part-request : (b : List ℕ) (offset from i : ℕ) → from ≡ min offset (length b) → request-word (drop from b) 0 i ≡ request-word b offset i
+unfolding word-at
+part-request b offset from i e = ⊎-elim there past (le-or-lt (offset + 2 * i + 2) (length b))
+  where
+    size : length (drop from b) ≡ length b - from
+    size = length-drop from b
+
+    there : offset + 2 * i + 2 ≤ length b → request-word (drop from b) 0 i ≡ request-word b offset i
+    there h =
+        let same : from + (0 + 2 * i) ≡ offset + 2 * i = omega arith in
+        let here = request-there (drop from b) 0 i _ (omega (arith, size)) refl in
+        request-there b offset i _ h (sym here ∙ (rw (drop-drop, same)))
+
+    past : length b < offset + 2 * i + 2 → request-word (drop from b) 0 i ≡ request-word b offset i
+    past h = sym (request-past (drop from b) 0 i (omega (arith, size))) ∙ request-past b offset i h
+
+pub part-asked :
+    (b : List ℕ) (offset from n : ℕ) → from ≡ min offset (length b) → asked (take (length b - from) (drop from b)) 0 n ≡ asked b offset n
+unfolding asked
+part-asked b offset from n e =
+    let whole : take (length b - from) (drop from b) ≡ drop from b = rw (← length-drop from b) (take-length (drop from b)) in
+    rw whole (listed-same n (request-word (drop from b) 0) (request-word b offset) (λ i l. part-request b offset from i e))
+
+-- ---- what is told, a piece behind another
+
+told-none : (t : Bool) → told-length t [] ≡ 0
+unfolding told-length
+told-none true = refl
+told-none false = refl
+
+told-more : (t : Bool) (a b : List ℕ) → told-length t (a ++ b) ≡ told-length t a + told-length t b
+unfolding told-length
+told-more true a b = length-append a b
+told-more false a b = refl
+
+told-nothing : (t w : Bool) (out : List ℕ) (at : ℕ) → told-bytes t w out at [] ≡ out
+unfolding told-bytes
+told-nothing true true out at = put-none out at
+told-nothing true false out at = refl
+told-nothing false w out at = refl
+
+told-size :
+    (t w : Bool) (out : List ℕ) (at : ℕ) (a : List ℕ) →
+    at + told-length t a ≤ told-room t w (length out) →
+    length (told-bytes t w out at a) ≡ length out
+unfolding told-length told-room told-bytes
+told-size true true out at a h = put-length out at a h
+told-size true false out at a h = refl
+told-size false w out at a h = refl
+
+told-then :
+    (t w : Bool) (out : List ℕ) (at : ℕ) (a b : List ℕ) →
+    at + told-length t a ≤ told-room t w (length out) →
+    told-bytes t w (told-bytes t w out at a) (at + told-length t a) b ≡ told-bytes t w out at (a ++ b)
+unfolding told-length told-room told-bytes
+told-then true true out at a b h = put-put out at a b h
+told-then true false out at a b h = refl
+told-then false w out at a b h = refl
+
+-- ---- telling, by what is told
+
+module _ (t w : Bool) (out : List ℕ) (at : ℕ) (a : List ℕ) where
+  abbrev Room : Type 0
+  Room = at + told-length t a ≤ told-room t w (length out)
+
+  abbrev Told : ℕ → List ℕ → Type 0
+  Told n after = (n ≡ at + told-length t a) × (after ≡ told-bytes t w out at a)
+
+  pub tell-none : t ≡ false → Told at out
+  unfolding told-length told-bytes
+  tell-none e = rw e (omega arith, refl)
+
+  module _ (t-is : t ≡ true) where
+    pub write-room : w ≡ true → Room → at + length a ≤ length out
+    unfolding told-length told-room
+    write-room e h = rw (t-is, e) at h
+
+    pub tell-written : w ≡ true → (n : ℕ) (after : List ℕ) → n ≡ at + length a → after ≡ put out at a → Told n after
+    unfolding told-length told-bytes
+    tell-written e n after g h = rw (t-is, e) (g, h)
+
+    pub count-room : w ≡ false → Room → at + length a ≤ 18446744073709551615
+    unfolding told-length told-room
+    count-room e h = rw (t-is, e) at h
+
+    pub tell-counted : w ≡ false → (n : ℕ) → n ≡ length a → Told (at + n) out
+    unfolding told-length told-bytes
+    tell-counted e n g = rw (t-is, e, g) (refl, refl)
+
+-- ---- a loop of turns that tells of them
+
+-- Before request i of qs: the offset in hand, moved by what is left, comes to where the whole ends; what is left, told behind what is
+-- told already, makes the whole.
+pub record Telling (start : Run) (qs : List ℕ) (t w : Bool) (before : List ℕ) (at : ℕ) (out : List ℕ) (r : Run) (next i : ℕ) : Type 0 where
+  pub ends : next + told-length t (event-lines r (drop i qs)) ≡ at + told-length t (event-lines start qs)
+  pub fits : at + told-length t (event-lines start qs) ≤ told-room t w (length before)
+  pub size : length out ≡ length before
+  pub text : told-bytes t w out next (event-lines r (drop i qs)) ≡ told-bytes t w before at (event-lines start qs)
+
+module _ (start : Run) (b : List ℕ) (offset n : ℕ) (t w : Bool) (before : List ℕ) (at : ℕ) where
+  abbrev all : List ℕ
+  all = asked b offset n
+
+  pub telling-first : at + told-length t (event-lines start all) ≤ told-room t w (length before) → Telling start all t w before at before start at 0
+  telling-first h = record { ends = refl; fits = h; size = refl; text = refl }
+
+  module _ (out : List ℕ) (r : Run) (next i : ℕ) (now-is : Telling start all t w before at out r next i) where
+    module _ (p : ℕ) (s : Served) (l : i < n) (e : p ≡ request-word b offset i) (f : s ≡ requested r p) where
+      abbrev line : List ℕ
+      line = event-line p (s .event) (s .best)
+
+      abbrev later : List ℕ
+      later = event-lines (s .run) (drop (suc i) all)
+
+      split : event-lines r (drop i all) ≡ line ++ later
+      unfolding event-lines
+      split = rw (f, e, asked-next b offset n i l)
+
+      within : next + told-length t line + told-length t later ≡ at + told-length t (event-lines start all)
+      within = omega (arith, told-more t line later, (rw split at (now-is .ends)))
+
+      pub line-fits : next + told-length t (event-line p (s .event) (s .best)) ≤ told-room t w (length out)
+      line-fits = rw (now-is .size) (omega (arith, within, now-is .fits))
+
+      pub telling-next :
+          (after : List ℕ) (then : ℕ) →
+          then ≡ next + told-length t (event-line p (s .event) (s .best)) →
+          after ≡ told-bytes t w out next (event-line p (s .event) (s .best)) →
+          Telling start all t w before at after (s .run) then (i + 1)
+      telling-next after then g h =
+          let one : i + 1 ≡ suc i = omega arith in
+          rw one
+          (record {
+            ends = omega (arith, within);
+            fits = now-is .fits;
+            size = ap length h ∙ told-size t w out next line line-fits ∙ now-is .size;
+            text = rw (h, g) (told-then t w out next line later line-fits ∙ (rw split at (now-is .text)));
+          })
+
+    pub telling-last :
+        i ≤ n → n ≤ i → (next ≡ at + told-length t (event-lines start all)) × (out ≡ told-bytes t w before at (event-lines start all))
+    unfolding event-lines
+    telling-last h l =
+        let end : i ≡ n = omega arith in
+        let ends = rw (end, asked-last b offset n) at (now-is .ends) in
+        let text = rw (end, asked-last b offset n) at (now-is .text) in
+        (omega (arith, told-none t, ends), sym (told-nothing t w out next) ∙ text)

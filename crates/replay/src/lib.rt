@@ -1,7 +1,7 @@
-// A replay: requests of a sound run, one after the other, over arrays that are lent and changed in place. No turn tests soundness
-// or copies the run. Assumes nothing.
+// A replay: requests of a sound run, one after the other, over arrays that are changed in place, and told as they come. No turn tests
+// soundness or copies the run. Assumes nothing.
 ghost use mathlib.Core.Path.{_≡_};
-ghost use Prim.Native.Nat.{_+_, _≤_};
+ghost use Prim.Native.Nat.{_+_, _≤_, min};
 ghost use lib.ListN.{length};
 ghost use Rattle.paging.specs.Sets.{_=?_, bit};
 ghost use Rattle.slots.specs.Slots.{near-of, keys-of};
@@ -9,7 +9,9 @@ ghost use Rattle.run.specs.Sound.{Sound};
 ghost use Rattle.run.specs.Request.{requested};
 ghost use Rattle.run.specs.History.{run-after};
 ghost use Rattle.trace.specs.Reading.{asked};
+ghost use Rattle.text.specs.Text.{event-line};
 ghost use Rattle.replay.specs.Replay.{counts-of, state, outcome, turned};
+ghost use Rattle.replay.specs.Told.{event-lines, told-length, told-room, told-bytes};
 use run::Run;
 use serve::Event;
 
@@ -20,15 +22,21 @@ pub struct Counts {
     pub best: u32,
 }
 
-// What a request comes to: the event, best with this request counted (0 beside a refusal), and the counts after it.
-pub struct Turn {
-    pub event: Event,
-    pub best: u32,
+// What requests come to: the offset behind what is told of them, and the counts after them.
+pub struct Played {
+    pub next: usize,
     pub counts: Counts,
 }
 
+// What a request comes to: the event, best with this request counted (0 beside a refusal), and the counts after it.
+struct Turn {
+    event: Event,
+    best: u32,
+    counts: Counts,
+}
+
 // The counts of a run.
-pub fn first_counts(run: Run) -> Counts
+fn first_counts(run: Run) -> Counts
     ensures { λ r. ⌜ r ≡ counts-of run ⌝ }
 {
     Counts {
@@ -83,7 +91,7 @@ fn counted(counts: Counts, event: Event, new: u32) -> Turn
 }
 
 // One request of a page, any 16-bit number.
-pub fn ask<'a>(
+fn ask<'a>(
     layer: &'a mut [u8; 1024],
     priority: &'a [u16; 1024],
     held: &'a mut [u16; 64],
@@ -119,11 +127,58 @@ pub fn ask<'a>(
     counted(counts, event, new)
 }
 
-// The misses of a run after the requests that begin at an offset of a file.
-pub fn misses(file: &[u8], offset: usize, requests: usize, start: Run) -> u32
-    requires { ⌜ Sound start ⌝ }
-    ensures { λ r. ⌜ r ≡ run-after start (asked (now (file .entry)) offset requests) .misses ⌝ }
+// An offset, or where what it points into ends.
+fn within(offset: usize, size: usize) -> usize
+    ensures { λ r. ⌜ r ≡ min offset size ⌝ }
 {
+    if size < offset {
+        return size;
+    }
+    offset
+}
+
+// Tells of a request at an offset, and answers the offset behind that.
+fn tell(
+    told: bool,
+    written: bool,
+    out: &mut [u8],
+    at: usize,
+    page: u64,
+    event: Event,
+    best: u64,
+) -> usize
+    requires { ⌜ at + told-length told (event-line page event best) ≤ told-room told written (length (now out)) ⌝ }
+    ensures offset { λ r. ⌜ r ≡ at + told-length told (event-line page event best) ⌝ }
+    ensures text { λ _. ⌜ now (out .exit) ≡ told-bytes told written (now (out .entry)) at (event-line page event best) ⌝ }
+{
+    if !told {
+        return at;
+    }
+    if written {
+        return text::write_line(out, at, page, event, best);
+    }
+    at + text::line_length(page, event, best)
+}
+
+// Plays the requests that begin at an offset of a file. Where they are told, the offset `at` moves by the length of their lines;
+// where what is told is written, the lines stand in the buffer.
+pub fn play<'a>(
+    file: &'a [u8],
+    offset: usize,
+    requests: usize,
+    start: Run,
+    told: bool,
+    written: bool,
+    out: &'a mut [u8],
+    at: usize,
+) -> Played
+    requires { ⌜ Sound start × (at + told-length told (event-lines start (asked (now file) offset requests)) ≤ told-room told written (length (now out))) ⌝ }
+    ensures counts { λ r. ⌜ r .counts ≡ counts-of (run-after start (asked (now (file .entry)) offset requests)) ⌝ }
+    ensures offset { λ r. ⌜ r .next ≡ at + told-length told (event-lines start (asked (now (file .entry)) offset requests)) ⌝ }
+    ensures text { λ _. ⌜ now (out .exit) ≡ told-bytes told written (now (out .entry)) at (event-lines start (asked (now (file .entry)) offset requests)) ⌝ }
+{
+    let from = within(offset, file.len());
+    let words = &file[from..];
     let pages = start.pages;
     let slots = start.slots;
     let k = (slots % 256) as u8;
@@ -133,9 +188,10 @@ pub fn misses(file: &[u8], offset: usize, requests: usize, start: Run) -> u32
     let mut near = slots::nears(&layer, &held, slots);
     let mut keys = slots::keys(&priority, &held, slots);
     let mut counts = first_counts(start);
+    let mut next = at;
     let mut i = 0;
     while i < requests {
-        let page = trace::request_at(file, offset, i);
+        let page = trace::request_at(words, 0, i);
         let turn = ask(
             &mut layer,
             &priority,
@@ -147,8 +203,28 @@ pub fn misses(file: &[u8], offset: usize, requests: usize, start: Run) -> u32
             page,
             counts,
         );
+        let event = turn.event;
+        next = tell(
+            told,
+            written,
+            out,
+            next,
+            page as u64,
+            event,
+            turn.best as u64,
+        );
         counts = turn.counts;
         i += 1;
     }
-    counts.misses
+    Played { next, counts }
+}
+
+// The misses of a run after the requests that begin at an offset of a file.
+pub fn misses(file: &[u8], offset: usize, requests: usize, start: Run) -> u32
+    requires { ⌜ Sound start ⌝ }
+    ensures { λ r. ⌜ r ≡ run-after start (asked (now (file .entry)) offset requests) .misses ⌝ }
+{
+    let mut none = [0; 1];
+    let played = play(file, offset, requests, start, false, false, &mut none, 0);
+    played.counts.misses
 }
