@@ -138,22 +138,17 @@ fn within(offset: usize, size: usize) -> usize
 }
 
 // Tells of a request at an offset, and answers the offset behind that.
-fn tell(
-    told: bool,
-    written: bool,
-    out: &mut [u8],
-    at: usize,
-    page: u64,
-    event: Event,
-    best: u64,
-) -> usize
-    requires { ⌜ at + told-length told (event-line page event best) ≤ told-room told written (length (now out)) ⌝ }
-    ensures offset { λ r. ⌜ r ≡ at + told-length told (event-line page event best) ⌝ }
-    ensures text { λ _. ⌜ now (out .exit) ≡ told-bytes told written (now (out .entry)) at (event-line page event best) ⌝ }
+fn tell(told: bool, written: bool, out: &mut [u8], at: usize, asked: u16, turn: Turn) -> usize
+    requires { ⌜ at + told-length told (event-line asked (turn .event) (turn .best)) ≤ told-room told written (length (now out)) ⌝ }
+    ensures offset { λ r. ⌜ r ≡ at + told-length told (event-line asked (turn .event) (turn .best)) ⌝ }
+    ensures text { λ _. ⌜ now (out .exit) ≡ told-bytes told written (now (out .entry)) at (event-line asked (turn .event) (turn .best)) ⌝ }
 {
     if !told {
         return at;
     }
+    let page = asked as u64;
+    let event = turn.event;
+    let best = turn.best as u64;
     if written {
         return text::write_line(out, at, page, event, best);
     }
@@ -203,16 +198,7 @@ pub fn play<'a>(
             page,
             counts,
         );
-        let event = turn.event;
-        next = tell(
-            told,
-            written,
-            out,
-            next,
-            page as u64,
-            event,
-            turn.best as u64,
-        );
+        next = tell(told, written, out, next, page, turn);
         counts = turn.counts;
         i += 1;
     }

@@ -71,29 +71,23 @@ ask-requires c κs =
     let i = c .before .before .before .before .before .before .before .loop .inv in
     rw (i .2) ((i .0 .sound-is, i .0 .long-is .layers, i .0 .long-is .slots), i .0 .nears)
 
-cast-tell : tie.Need-cast-tell Inv-loop μ-loop
-cast-tell c = search needs
-
-cast-tell-2 : tie.Need-cast-tell-2 Inv-loop μ-loop
-cast-tell-2 c = search needs
-
 tell-requires : tie.Need-tell-requires Inv-loop μ-loop
 tell-requires c κs =
-    let t = c .before .before .before .before .before .before .before .before in
+    let t = c .before .before .before .before .before .before .before in
     let i = t .before .before .loop .inv in
-    line-fits _ _ _ _ _ _ _ _ _ _ _ _ (i .1) _ _ (t .before .loop-test .taken) (t .request-at .ensures) (rw (i .2) at (c .before .before .ask .ensures .0))
+    line-fits _ _ _ _ _ _ _ _ _ _ _ _ (i .1) _ _ (t .before .loop-test .taken) (t .request-at .ensures) (rw (i .2) at (c .before .ask .ensures .0))
 
 add-i : tie.Need-add-i Inv-loop μ-loop
-add-i c = omega (arith, c .before .before .before .before .before .before .before .before .before .before .before .before .before .loop-test .taken, c .before .before .before .before .before .before .before .before .before .before .before .before .before .before .before .before .before .before .before .before .before .before .before .before .before .before .before .before .before .fits .requests)
+add-i c = omega (arith, c .before .before .before .before .before .before .before .before .before .before .before .before .loop-test .taken, c .before .before .before .before .before .before .before .before .before .before .before .before .before .before .before .before .before .before .before .before .before .before .before .before .before .before .before .before .fits .requests)
 
 loop-less : tie.Need-loop-less Inv-loop μ-loop
 loop-less c = search needs
 
 loop-again : tie.Need-loop-again Inv-loop μ-loop
 loop-again c =
-    let t = c .before .before .before .before .before .before .before .before .before .before .before .before in
+    let t = c .before .before .before .before .before .before .before .before .before .before .before in
     let i = t .before .before .loop .inv in
-    let asks = c .before .before .before .before .before .before .ask .ensures in
+    let asks = c .before .before .before .before .before .ask .ensures in
     let line = c .before .before .before .tell .ensures in
     let is = rw (i .2) at (asks .0) in (
       replaying-next _ _ _ _ _ _ _ _ (i .0) _ _ _ _ (t .before .loop-test .taken) (t .request-at .ensures) is
@@ -132,8 +126,6 @@ play-spec =
     loop-holds
     request-at-requires
     ask-requires
-    cast-tell
-    cast-tell-2
     tell-requires
     add-i
     loop-less
