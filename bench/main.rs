@@ -7,20 +7,19 @@
 mod plain;
 mod same;
 mod traces;
+mod work;
 
 use std::hint::black_box;
 use std::process::exit;
 use traces::{Kind, KINDS};
+use work::{rounds, timed, Work, CALLS, FEWER, REQUESTS, ROOM};
 
 extern "C" {
     fn timed_replay(file: *const u8, length: usize) -> u32;
     fn timed_checked(file: *const u8, length: usize) -> u32;
     fn timed_text(file: *const u8, length: usize, out: *mut u8, room: usize) -> usize;
     fn timonedra_serve(image: *mut u8, length: usize, page: u32) -> u32;
-    fn clock_gettime(clock: i32, time: &mut [i64; 2]) -> i32;
 }
-
-const THREAD_CPUTIME: i32 = 3;
 
 // The library's calls, as Rust calls. Each lends whole slices.
 fn our_replay(file: &[u8]) -> u32 {
@@ -42,49 +41,15 @@ const CHECKED: [fn(&[u8]) -> u32; 4] = [our_checked, plain::plain_checked, plain
 const TEXT: [fn(&[u8], &mut [u8]) -> usize; 4] = [our_text, plain::plain_text, plain::flat_text, same::same_text];
 const SERVE: [fn(&mut [u8], u32) -> u32; 4] = [our_serve, plain::plain_serve, plain::flat_serve, same::same_serve];
 
-const REQUESTS: usize = 30_000;
-// The calls that test the whole run get the first requests of the trace, on every side the same.
-const FEWER: usize = 3_000;
-const ROOM: usize = 3_000_208;
-
-fn rounds() -> usize {
-    std::env::var("ROUNDS").ok().and_then(|text| text.parse().ok()).unwrap_or(5)
-}
+// The best of so many rounds, where ROUNDS does not say.
+const USUAL: usize = 5;
 
 fn mismatch(call: &str, side: usize, kind: Kind, pages: usize, slots: usize) -> ! {
     println!("MISMATCH: {call} of {} differs from ours on {} N={pages} k={slots}", SIDES[side], kind.name());
     exit(1);
 }
 
-/// The traces of a kind, and the image with which they start.
-struct Work {
-    kind: Kind,
-    pages: usize,
-    slots: usize,
-    requests: Vec<u16>,
-    file: Vec<u8>,
-    short: Vec<u8>,
-    image: Vec<u8>,
-}
-
 impl Work {
-    fn new(kind: Kind, pages: usize, slots: usize) -> Work {
-        let seed = 1 + kind as u64 + 1000 * pages as u64 + 1_000_000 * slots as u64;
-        let requests = traces::requests(kind, pages, slots, REQUESTS, seed);
-        let file = traces::file(pages, slots, &requests);
-        let short = traces::file(pages, slots, &requests[..FEWER]);
-        Work { kind, pages, slots, requests, file, short, image: traces::image(pages, slots) }
-    }
-
-    /// Serves the first requests to an image in place, and answers the answers added up in order.
-    fn board(&self, serve: fn(&mut [u8], u32) -> u32, image: &mut [u8]) -> u64 {
-        let mut sum: u64 = 0;
-        for &page in &self.requests[..FEWER] {
-            sum = sum.wrapping_mul(31).wrapping_add(serve(black_box(&mut *image), page as u32) as u64);
-        }
-        sum
-    }
-
     /// Every call on every side; ends the program where answers differ. Answers the misses.
     fn compare(&self) -> u32 {
         let (kind, pages, slots) = (self.kind, self.pages, self.slots);
@@ -135,21 +100,6 @@ impl Work {
     }
 }
 
-/// The nanoseconds that this thread has had a processor, by Linux on 64 bits: other load takes none of them.
-fn now() -> f64 {
-    let mut time = [0i64; 2];
-    unsafe { clock_gettime(THREAD_CPUTIME, &mut time) };
-    time[0] as f64 * 1e9 + time[1] as f64
-}
-
-fn timed<T>(call: impl FnOnce() -> T) -> f64 {
-    let begin = now();
-    black_box(call());
-    now() - begin
-}
-
-const CALLS: [&str; 4] = ["sound step", "checked request", "board entry", "play to text"];
-
 /// Nanoseconds per request of one call on one side, timed once.
 fn sample(work: &Work, call: usize, side: usize, image: &mut Vec<u8>, out: &mut [u8]) -> f64 {
     match call {
@@ -169,7 +119,7 @@ fn best(works: &[Work], calls: &[usize]) -> Vec<[[f64; 4]; 4]> {
     let mut least = vec![[[f64::INFINITY; 4]; 4]; works.len()];
     let mut image = Vec::new();
     let mut out = vec![0; ROOM];
-    for _ in 0..rounds() {
+    for _ in 0..rounds(USUAL) {
         for (work, least) in works.iter().zip(&mut least) {
             for &call in calls {
                 for side in 0..4 {
@@ -197,7 +147,7 @@ fn row(call: &str, kind: Kind, times: [f64; 4]) {
 
 fn kinds() {
     for (pages, slots) in [(1024, 64), (64, 8)] {
-        println!("\nN={pages} k={slots}, ns per request, best of {}. ours: the proved library. plain: plain Rust. flat: the same, with", rounds());
+        println!("\nN={pages} k={slots}, ns per request, best of {}. ours: the proved library. plain: plain Rust. flat: the same, with", rounds(USUAL));
         println!("the pass over the layers spelt without a jump. same: Rust with our algorithm.\n");
         println!("| Call | Kind | ours | plain | flat | same | ours / plain | ours / flat | ours / same |");
         println!("|---|---|---:|---:|---:|---:|---:|---:|---:|");

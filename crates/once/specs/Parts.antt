@@ -1,8 +1,9 @@
 -- No second answer meets the contract of a part: of each public function below the calls and of the programs' parts. As in Once,
 -- `C.Post` is the contract as the checker holds the code to it. Assumes nothing.
 use mathlib.Core.Path.{_≡_, sym, ap, _∙_}
-use Rattle.run.specs.declared.Served.{Served}
-use Rattle.replay.specs.declared.Turn.{Turn}
+use Prim.Native.Nat.{ℕ}
+use Rattle.replay.specs.declared.Counts.{Counts}
+use Rattle.replay.specs.declared.Played.{Played}
 use Rattle.once.specs.Once.{Once, OnceLeft, Left}
 use Rattle.ranking.proofs.default_priority.Reads as ranking-default-priority
 use Rattle.ranking.proofs.outranks.Reads as ranking-outranks
@@ -46,8 +47,7 @@ use Rattle.image.proofs.write.Reads as image-write
 use Rattle.certify.proofs.tables.Reads as certify-tables
 use Rattle.serve.proofs.step.Reads as serve-step
 use Rattle.run.proofs.Run.in_image.Reads as run-in-image
-use Rattle.replay.proofs.first_counts.Reads as replay-first-counts
-use Rattle.replay.proofs.ask.Reads as replay-ask
+use Rattle.replay.proofs.play.Reads as replay-play
 use Rattle.replay.proofs.misses.Reads as replay-misses
 use Rattle.text.proofs.write_number.Reads as text-write-number
 use Rattle.text.proofs.write_line.Reads as text-write-line
@@ -268,38 +268,16 @@ run-in-image-once κ a x y s t p q = p ∙ sym q
 
 -- ---- a replay
 
-pub replay-first-counts-once : Once replay-first-counts.Post
-replay-first-counts-once κ a x y s t p q = p ∙ sym q
-
--- A turn is read off the answer of a request that it stands for.
-turn-of : Served → Turn
-turn-of s =
-    record {
-      event = s .event;
-      best = s .best;
-      counts = record { served = s .run .served; hits = s .run .hits; misses = s .run .misses; best = s .run .best };
-    }
-
-pub replay-ask-once :
-    (κ : _) (a : _) (x y : _) (s t : _) →
-    replay-ask.Post κ a x s →
-    replay-ask.Post κ a y t →
-    (x ≡ y)
-    × (s .0 .now ≡ t .0 .now)
-    × (s .1 .1 .0 .now ≡ t .1 .1 .0 .now)
-    × (s .1 .1 .1 .0 .now ≡ t .1 .1 .1 .0 .now)
-    × (s .1 .1 .1 .1 .0 .now ≡ t .1 .1 .1 .1 .0 .now)
-unfolding turn-of
-replay-ask-once κ a x y s t p q =
-    let same = p .0 ∙ sym (q .0) in
-    let layers = ap (λ (z : Served). z .run .layer) same in
-    let slots = ap (λ (z : Served). z .run .held) same in (
-      ap turn-of same,
-      layers,
-      slots,
-      p .1 .0 ∙ rw (layers, slots) (sym (q .1 .0)),
-      p .1 .1 ∙ rw slots (sym (q .1 .1)),
+pub replay-play-once : OnceLeft replay-play.Post (λ κ s. s .1 .1 .1 .1 .1 .1 .0 .now)
+replay-play-once κ a x y s t p q =
+    let counts = p .0 ∙ sym (q .0) in
+    let next = p .1 .0 ∙ sym (q .1 .0) in (
+      ap (λ (n : ℕ). played n (x .counts)) next ∙ ap (played (y .next)) counts,
+      p .1 .1 ∙ sym (q .1 .1),
     )
+  where
+    played : ℕ → Counts → Played
+    played n c = record { next = n; counts = c }
 
 pub replay-misses-once : Once replay-misses.Post
 replay-misses-once κ a x y s t p q = p ∙ sym q

@@ -1,11 +1,11 @@
 -- Laws of what the trace program prints: how long it can be, the requests' lines one by one, and the answer of a file. Assumes nothing.
 use mathlib.Core.Bool.{true, false}
-use mathlib.Core.List.{List, [], _∷_, _++_}
+use mathlib.Core.List.{List, [], _∷_, _++_, append-assoc}
 use mathlib.Core.Logic.{⊎-elim}
 use mathlib.Core.Path.{_≡_, refl, sym, ap, _∙_}
 use Prim.Native.Nat.{ℕ, suc, _+_, _*_, _-_, _≤_, _<_}
 use native.Mathlib.Omega.{arith}
-use lib.ListN.{length, drop, length-append}
+use lib.ListN.{length, length-append}
 use borrow.Author.Tests.{le-leb, leb-true, ne-eqb}
 use Rattle.paging.specs.Sets.{_≤?_}
 use Rattle.paging.specs.Tests.{same-or-not}
@@ -16,13 +16,17 @@ use Rattle.run.specs.declared.Run.{Run}
 use Rattle.run.specs.declared.Served.{Served}
 use Rattle.run.specs.Sound.{Sound}
 use Rattle.run.specs.Request.{requested}
-use Rattle.run.specs.Theorems.{request-is-sound}
+use Rattle.run.specs.History.{run-after}
 use Rattle.trace.specs.declared.Traced.{Traced}
 use Rattle.trace.specs.Layout.{request-word, request-offset, requests-in, requests-of, trace-refusal, traced}
-use Rattle.trace.specs.Reading.{asked, asked-next, asked-last}
+use Rattle.trace.specs.Reading.{asked}
 use Rattle.trace.specs.Theorems.{read-header, accepted-read, read-sound, asked-all, told-refusal}
 use Rattle.text.specs.Text.{event-line, first-line, last-line, refused-line}
 use Rattle.text.specs.Laws.{event-line-short, first-line-short, last-line-short, refused-line-short}
+use Rattle.replay.specs.declared.Counts.{Counts}
+use Rattle.replay.specs.declared.Played.{Played}
+use Rattle.replay.specs.Replay.{counts-of}
+use Rattle.replay.specs.Told.{event-lines, told-length, told-room, told-bytes}
 use Rattle.player.specs.Answer.{lines, answer-bytes, answer-length, answered}
 
 -- ---- no answer is longer than the room of the longest
@@ -56,135 +60,83 @@ answer-short b = ⊎-elim fine bad (same-or-not (trace-refusal b) 0)
     bad : (trace-refusal b ≡ 0 → ⊥) → length (answer-bytes b) ≤ room
     bad ne = rw (ne-eqb (trace-refusal b) 0 ne) (omega (arith, refused-line-short (trace-refusal b)))
 
--- ---- the lines of requests, one by one
+-- ---- the lines of requests as they are played, and the last line behind them
 
-module _ (b : List ℕ) (offset n : ℕ) where
-  -- what is still to be written before request i
-  pub rest : Run → ℕ → List ℕ
-  rest r i = lines r (drop i (asked b offset n))
+abbrev last-of : Counts → List ℕ
+last-of c = last-line (c .served) (c .hits) (c .misses) (c .best)
 
-  abbrev line-of : Run → ℕ → List ℕ
-  line-of r p = event-line p (requested r p .event) (requested r p .best)
+lines-are : (r : Run) (ps : List ℕ) → lines r ps ≡ event-lines r ps ++ last-of (counts-of (run-after r ps))
+unfolding lines event-lines run-after
+lines-are r [] = refl
+lines-are r (p ∷ ps) =
+    let s : Served = requested r p in
+    rw (lines-are (s .run) ps)
+    (sym (append-assoc (event-line p (s .event) (s .best)) (event-lines (s .run) ps) (last-of (counts-of (run-after (s .run) ps)))))
 
-  rest-next :
-      (r : Run) (i : ℕ) →
-      i < n →
-      rest r i ≡ line-of r (request-word b offset i) ++ rest (requested r (request-word b offset i) .run) (suc i)
-  unfolding rest lines
-  rest-next r i l = rw (asked-next b offset n i l)
+module _ (start : Run) (b : List ℕ) (offset n : ℕ) where
+  abbrev qs : List ℕ
+  qs = asked b offset n
 
-  rest-last : (r : Run) → rest r n ≡ last-line (r .served) (r .hits) (r .misses) (r .best)
-  unfolding rest lines
-  rest-last r = rw (asked-last b offset n)
+  asked-short : length (lines start qs) ≤ 100 * n + 108
+  unfolding asked
+  asked-short = omega (arith, lines-short start qs, listed-length n (request-word b offset))
 
-  rest-short : (r : Run) → length (rest r 0) ≤ 100 * n + 108
-  unfolding rest asked
-  rest-short r = omega (arith, lines-short r (asked b offset n), listed-length n (request-word b offset))
+  -- of counts that are those after the requests
+  module _ (c : Counts) (c-is : c ≡ counts-of (run-after start qs)) where
+    with-last : lines start qs ≡ event-lines start qs ++ last-of c
+    with-last = rw c-is (lines-are start qs)
 
-  -- Before request i: the lines so far end at an offset, from which what is left ends where the whole does.
-  pub record Reached (start : Run) (at : ℕ) (r : Run) (next i : ℕ) : Type 0 where
-    pub sound-is : Sound r
-    pub reached : i ≤ n
-    pub ends : next + length (rest r i) ≡ at + length (rest start 0)
+    with-last-length : length (lines start qs) ≡ length (event-lines start qs) + length (last-of c)
+    with-last-length = ap length with-last ∙ length-append (event-lines start qs) (last-of c)
 
-  module _ (start : Run) (at : ℕ) where
-    pub reached-first : Sound start → Reached start at start at 0
-    reached-first w = record { sound-is = w; reached = omega arith; ends = refl }
+  abbrev events-length : length (lines start qs) ≡ length (event-lines start qs) + length (last-of (counts-of (run-after start qs)))
+  events-length = with-last-length (counts-of (run-after start qs)) refl
 
-    module _ (r : Run) (next i : ℕ) (now-is : Reached start at r next i) where
-      module _ (p : ℕ) (s : Served) (l : i < n) (e : p ≡ request-word b offset i) (f : s ≡ requested r p) where
-        split : rest r i ≡ event-line p (s .event) (s .best) ++ rest (s .run) (suc i)
-        split = rw (f, e) (rest-next r i l)
+  -- measured: nothing is lost in counting
+  pub events-counted : (size : ℕ) → n ≤ 30000 → 0 + told-length true (event-lines start qs) ≤ told-room true false size
+  unfolding told-length told-room
+  events-counted size few = omega (arith, asked-short, events-length)
 
-        line-within : next + length (event-line p (s .event) (s .best)) + length (rest (s .run) (suc i)) ≡ at + length (rest start 0)
-        line-within =
-            omega (arith, length-append (event-line p (s .event) (s .best)) (rest (s .run) (suc i)), (rw split at (now-is .ends)))
+  module _ (p : Played) (c-is : p .counts ≡ counts-of (run-after start qs)) (next-is : p .next ≡ 0 + told-length true (event-lines start qs)) where
+    pub lines-measured :
+        (m : ℕ) → m ≡ length (last-line (p .counts .served) (p .counts .hits) (p .counts .misses) (p .counts .best)) →
+        p .next + m ≡ length (lines start (asked b offset n))
+    unfolding told-length
+    lines-measured m e = omega (arith, next-is, with-last-length (p .counts) c-is)
 
-        -- it is counted without loss
-        pub line-counted : n ≤ 30000 → at ≡ 0 → next + length (event-line p (s .event) (s .best)) ≤ room
-        line-counted few e = omega (arith, line-within, rest-short start)
+    pub lines-counted :
+        (m : ℕ) → m ≡ length (last-line (p .counts .served) (p .counts .hits) (p .counts .misses) (p .counts .best)) →
+        n ≤ 30000 → p .next + m ≤ room
+    lines-counted m e few = omega (arith, lines-measured m e, asked-short)
 
-        pub reached-next :
-            (then : ℕ) → then ≡ next + length (event-line p (s .event) (s .best)) → Reached start at (s .run) then (i + 1)
-        reached-next then g =
-            let one : i + 1 ≡ suc i = omega arith in
-            rw one (record { sound-is = rw f (request-is-sound r p (now-is .sound-is)); reached = l; ends = omega (arith, line-within) })
+  -- written
+  module _ (out : List ℕ) (at : ℕ) (fits : at + length (lines start qs) ≤ length out) where
+    events-fit : at + length (event-lines start qs) ≤ length out
+    events-fit = omega (arith, fits, events-length)
 
-      last-is : n ≤ i → rest r i ≡ last-line (r .served) (r .hits) (r .misses) (r .best)
-      last-is l =
-          let is-last : i ≡ n = omega (arith, now-is .reached) in
-          rw is-last (rest-last r)
+    pub events-room : at + told-length true (event-lines start qs) ≤ told-room true true (length out)
+    unfolding told-length told-room
+    events-room = events-fit
 
-      pub reached-last :
-          n ≤ i →
-          next + length (last-line (r .served) (r .hits) (r .misses) (r .best)) ≡ at + length (lines start (asked b offset n))
-      unfolding rest
-      reached-last l = rw (last-is l) at (now-is .ends)
+    module _ (p : Played) (mid : List ℕ) (c-is : p .counts ≡ counts-of (run-after start qs)) (next-is : p .next ≡ at + told-length true (event-lines start qs)) (mid-is : mid ≡ told-bytes true true out at (event-lines start qs)) where
+      abbrev last : List ℕ
+      last = last-of (p .counts)
 
-      pub last-counted : n ≤ i → n ≤ 30000 → at ≡ 0 → next + length (last-line (r .served) (r .hits) (r .misses) (r .best)) ≤ room
-      last-counted l few e = omega (arith, rest-short start, (rw (last-is l) at (now-is .ends)))
+      pub last-fits : p .next + length (last-line (p .counts .served) (p .counts .hits) (p .counts .misses) (p .counts .best)) ≤ length mid
+      unfolding told-length told-bytes
+      last-fits =
+          omega (arith, fits, next-is, ap length mid-is, put-length out at (event-lines start qs) events-fit, with-last-length (p .counts) c-is)
 
-  -- And the lines so far are written: what is left, written behind them, makes the whole.
-  pub record Playing (start : Run) (before : List ℕ) (at : ℕ) (out : List ℕ) (r : Run) (next i : ℕ) : Type 0 where
-    pub so-far : Reached start at r next i
-    pub fits : at + length (rest start 0) ≤ length before
-    pub size : length out ≡ length before
-    pub text : put out next (rest r i) ≡ put before at (rest start 0)
-
-  module _ (start : Run) (before : List ℕ) (at : ℕ) where
-    pub playing-first :
-        Sound start → at + length (lines start (asked b offset n)) ≤ length before → Playing start before at before start at 0
-    unfolding rest
-    playing-first w h = record { so-far = reached-first start at w; fits = h; size = refl; text = refl }
-
-    module _ (out : List ℕ) (r : Run) (next i : ℕ) (now-is : Playing start before at out r next i) where
-      module _ (p : ℕ) (s : Served) (l : i < n) (e : p ≡ request-word b offset i) (f : s ≡ requested r p) where
-        abbrev line : List ℕ
-        line = event-line p (s .event) (s .best)
-
-        pub line-fits : next + length (event-line p (s .event) (s .best)) ≤ length out
-        line-fits = omega (arith, line-within start at r next i (now-is .so-far) p s l e f, now-is .fits, now-is .size)
-
-        pub playing-next :
-            (after : List ℕ) (then : ℕ) →
-            then ≡ next + length (event-line p (s .event) (s .best)) →
-            after ≡ put out next (event-line p (s .event) (s .best)) →
-            Playing start before at after (s .run) then (i + 1)
-        playing-next after then g h =
-            record {
-              so-far = reached-next start at r next i (now-is .so-far) p s l e f then g;
-              fits = now-is .fits;
-              size = ap length h ∙ put-length out next line line-fits ∙ now-is .size;
-              text = whole;
-            }
-          where
-            one : i + 1 ≡ suc i
-            one = omega arith
-
-            whole : put after then (rest (s .run) (i + 1)) ≡ put before at (rest start 0)
-            whole =
-                rw (h, g, one)
-                (put-put out next line (rest (s .run) (suc i)) line-fits
-                ∙ (rw (split start at r next i (now-is .so-far) p s l e f) at (now-is .text)))
-
-      module _ (l : n ≤ i) where
-        abbrev last : List ℕ
-        last = last-line (r .served) (r .hits) (r .misses) (r .best)
-
-        pub last-fits : next + length (last-line (r .served) (r .hits) (r .misses) (r .best)) ≤ length out
-        unfolding rest
-        last-fits = omega (arith, reached-last start at r next i (now-is .so-far) l, now-is .fits, now-is .size)
-
-        pub playing-last :
-            (after : List ℕ) (end : ℕ) →
-            end ≡ next + length (last-line (r .served) (r .hits) (r .misses) (r .best)) →
-            after ≡ put out next (last-line (r .served) (r .hits) (r .misses) (r .best)) →
-            (end ≡ at + length (lines start (asked b offset n))) × (after ≡ put before at (lines start (asked b offset n)))
-        unfolding rest
-        playing-last after end g h = (
-          g ∙ reached-last start at r next i (now-is .so-far) l,
-          h ∙ (rw (last-is start at r next i (now-is .so-far) l) at (now-is .text)),
-        )
+      pub lines-written :
+          (end : ℕ) (after : List ℕ) →
+          end ≡ p .next + length last →
+          after ≡ put mid (p .next) last →
+          (end ≡ at + length (lines start (asked b offset n))) × (after ≡ put out at (lines start (asked b offset n)))
+      unfolding told-length told-bytes
+      lines-written end after g h = (
+        omega (arith, g, next-is, with-last-length (p .counts) c-is),
+        h ∙ (rw (mid-is, next-is, with-last (p .counts) c-is) (put-put out at (event-lines start qs) last events-fit)),
+      )
 
 -- ---- the answer of a file
 

@@ -35,38 +35,11 @@ fn write_lines<'a>(
     ensures offset { λ r. ⌜ r ≡ at + length (lines start (asked (now (file .entry)) offset requests)) ⌝ }
     ensures text { λ _. ⌜ now (out .exit) ≡ put (now (out .entry)) at (lines start (asked (now (file .entry)) offset requests)) ⌝ }
 {
-    let pages = start.pages;
-    let slots = start.slots;
-    let k = (slots % 256) as u8;
-    let priority = start.priority;
-    let mut layer = start.layer;
-    let mut held = start.held;
-    let mut near = slots::nears(&layer, &held, slots);
-    let mut keys = slots::keys(&priority, &held, slots);
-    let mut counts = replay::first_counts(start);
-    let mut next = at;
-    let mut i = 0;
-    while i < requests {
-        let page = trace::request_at(file, offset, i);
-        let turn = replay::ask(
-            &mut layer,
-            &priority,
-            &mut held,
-            &mut near,
-            &mut keys,
-            pages,
-            k,
-            page,
-            counts,
-        );
-        let event = turn.event;
-        next = text::write_line(out, next, page as u64, event, turn.best as u64);
-        counts = turn.counts;
-        i += 1;
-    }
+    let played = replay::play(file, offset, requests, start, true, true, out, at);
+    let counts = played.counts;
     text::write_last_line(
         out,
-        next,
+        played.next,
         counts.served as u64,
         counts.hits as u64,
         counts.misses as u64,
@@ -90,36 +63,10 @@ fn lines_length(file: &[u8], offset: usize, requests: usize, start: Run) -> usiz
     requires { ⌜ Sound start × (requests ≤ 30000) ⌝ }
     ensures { λ r. ⌜ r ≡ length (lines start (asked (now (file .entry)) offset requests)) ⌝ }
 {
-    let pages = start.pages;
-    let slots = start.slots;
-    let k = (slots % 256) as u8;
-    let priority = start.priority;
-    let mut layer = start.layer;
-    let mut held = start.held;
-    let mut near = slots::nears(&layer, &held, slots);
-    let mut keys = slots::keys(&priority, &held, slots);
-    let mut counts = replay::first_counts(start);
-    let mut size = 0;
-    let mut i = 0;
-    while i < requests {
-        let asked = trace::request_at(file, offset, i);
-        let turn = replay::ask(
-            &mut layer,
-            &priority,
-            &mut held,
-            &mut near,
-            &mut keys,
-            pages,
-            k,
-            asked,
-            counts,
-        );
-        let event = turn.event;
-        size += text::line_length(asked as u64, event, turn.best as u64);
-        counts = turn.counts;
-        i += 1;
-    }
-    size + last_length(counts)
+    let mut none = [0; 1];
+    let played = replay::play(file, offset, requests, start, true, false, &mut none, 0);
+    let counts = played.counts;
+    played.next + last_length(counts)
 }
 
 // How long the answer of a file is.

@@ -1,73 +1,101 @@
--- A turn is a request, and a loop of turns is the requests one after the other. Assumes nothing.
-use mathlib.Core.List.{List}
+-- A turn is a request, and a loop of turns is the requests one after the other, told as they come. Assumes nothing.
+use mathlib.Core.Bool.{Bool, true, false}
+use mathlib.Core.List.{List, [], _++_}
 use mathlib.Core.Logic.{⊎-elim}
 use mathlib.Core.Path.{_≡_, refl, sym, ap, subst, _∙_}
-use Prim.Native.Nat.{ℕ, suc, _+_, _≤_, _<_}
+use Prim.Native.Nat.{ℕ, suc, _+_, _*_, _-_, _≤_, _<_, min}
 use native.Mathlib.Omega.{arith}
 use lib.Dec.{eqb}
-use lib.ListN.{length, getD, set, drop, length-set}
+use lib.ListN.{length, getD, set, take, drop, length-set, length-append, length-drop}
+use lib.Seq.{drop-drop, take-length}
 use Rattle.paging.specs.Sets.{bit}
 use Rattle.paging.specs.Layers.{next}
 use Rattle.paging.specs.Tests.{le-or-lt}
-use Rattle.paging.specs.Tables.{table-length}
-use Rattle.slots.specs.Slots.{near-of, keys-of}
+use Rattle.paging.specs.Tables.{table-length, listed-same}
+use Rattle.words.specs.Words.{word-at, put}
+use Rattle.words.specs.Laws.{put-put, put-length, put-none}
+use Rattle.ranking.specs.Key.{key-of, key-at, page-keys, keys-entry}
 use Rattle.serve.specs.declared.Event.{Event}
-use Rattle.serve.specs.declared.Event.the-variants.{Hit, Miss, Refused}
-use Rattle.serve.specs.Step.{Ready, Stepped}
+use Rattle.serve.specs.declared.Event.the-variants.{Refused}
+use Rattle.serve.specs.Step.{Ready, Steps}
 use Rattle.run.specs.declared.Run.{Run}
 use Rattle.run.specs.declared.Served.{Served}
-use Rattle.run.specs.Numbers.{most-served}
+use Rattle.run.specs.Numbers.{ranks}
 use Rattle.run.specs.Sound.{Sound}
-use Rattle.run.specs.SoundLaws.{sound-iff}
+use Rattle.run.specs.SoundLaws.{sound-iff, run-counts}
 use Rattle.run.specs.Cached.{slot-of}
-use Rattle.run.specs.Request.{served, requested, counted}
+use Rattle.run.specs.Request.{requested, next-run, counted}
 use Rattle.run.specs.History.{run-after}
-use Rattle.run.specs.Requesting.{request-refusal, refuse-page, refuse-served, refuse-none, requested-refused, requested-served}
-use Rattle.run.specs.Serving.{answered, with-counts, run-ready, counts-fit, serve-answer}
-use Rattle.run.specs.Theorems.{never-refused, hit-or-miss, request-is-sound}
+use Rattle.run.specs.Requesting.{request-refusal, refusal-of-sound, refuse-page, refuse-served, refuse-none, requested-refused, requested-served}
+use Rattle.run.specs.Serving.{RunKeys, run-ready, run-ranked, step-taken}
+use Rattle.run.specs.Theorems.{hit-or-miss, request-is-sound}
 use Rattle.trace.specs.Layout.{request-word}
-use Rattle.trace.specs.Reading.{asked, asked-next, asked-last}
-use Rattle.replay.specs.declared.Counts.{Counts}
-use Rattle.replay.specs.declared.Turn.{Turn}
-use Rattle.replay.specs.Replay.{state, outcome, turned}
+use Rattle.trace.specs.Reading.{asked, asked-next, asked-last, request-past, request-there}
+use Rattle.text.specs.Text.{event-line}
+use Rattle.counts.specs.declared.Counts.{Counts}
+use Rattle.counts.specs.declared.Turn.{Turn}
+use Rattle.counts.specs.Counts.{most-served, page-refusal, turned}
+use Rattle.counts.specs.Laws.{counts-room, number-allowed}
+use Rattle.replay.specs.Replay.{state, outcome, Seated}
+use Rattle.replay.specs.Told.{event-lines, told-length, told-room, told-bytes}
 
 module _ (N k : ℕ) (c : Counts) (layer priority held : List ℕ) (w : Sound (state N k c layer priority held)) (p : ℕ) where
   abbrev r : Run
   r = state N k c layer priority held
 
-  -- a page that is not below N, and a run that has served all it may
-  pub refused-page : N ≤ p → outcome N k (record { event = Refused 8; best = 0; counts = c }) layer priority held ≡ requested r p
-  refused-page h = requested-refused r p 8 (refuse-page r p (sound-iff r .1 w) h) (λ z. omega arith)
+  -- a page that is not below N, or a run that has served all it may
+  pub refused-turn :
+      (n : ℕ) → n ≡ page-refusal N (c .served) p → (n ≡ 0 → ⊥) → outcome N k (record { event = Refused n; best = 0; counts = c }) layer priority held ≡ requested r p
+  refused-turn n e ne = requested-refused r p n (refusal-of-sound r p (sound-iff r .1 w) n e) ne
 
-  pub refused-served :
-      p < N → most-served ≤ c .served → outcome N k (record { event = Refused 9; best = 0; counts = c }) layer priority held ≡ requested r p
-  refused-served l h = requested-refused r p 9 (refuse-served r p (sound-iff r .1 w) l h) (λ z. omega arith)
+  module _ (n : ℕ) (told : n ≡ page-refusal N (c .served) p) (z : n ≡ 0) where
+    allowed : (p < N) × (c .served < most-served)
+    allowed = number-allowed N (c .served) p (sym told ∙ z)
 
-  -- no count is at its end
-  pub turn-counts :
-      c .served < most-served → (new x : ℕ) → new ≡ bit (eqb x 0) →
-      (c .served + 1 ≤ 4294967295) × (c .hits + 1 ≤ 4294967295) × (c .misses + 1 ≤ 4294967295) × (c .best + 1 ≤ 4294967295) × (new ≤ 1)
-  turn-counts room new x e = counts-fit r new x w room e
+    -- no count is at its end
+    pub turn-counts :
+        (new x : ℕ) → new ≡ bit (eqb x 0) →
+        (c .served + 1 ≤ 4294967295) × (c .hits + 1 ≤ 4294967295) × (c .misses + 1 ≤ 4294967295) × (c .best + 1 ≤ 4294967295) × (new ≤ 1)
+    turn-counts new x e = counts-room c (run-counts r w) (allowed .1) new x e
 
-  module _ (l : p < N) (room : c .served < most-served) where
-    pub turn-ready : length layer ≡ 1024 → length held ≡ 64 → Ready N k p layer priority held
-    turn-ready long seats = run-ready r p w l long seats
+    -- the page is an index
+    pub turn-page : p < 1024
+    turn-page = omega (arith, allowed .0, w .pages)
 
-    module _ (new : ℕ) (e : Event) (layer′ held′ near′ keys′ : List ℕ) (new-is : new ≡ bit (eqb (getD layer p 0) 0)) (st : Stepped N k p layer priority held e layer′ held′ near′ keys′) where
-      is-served : answered r new e layer′ held′ ≡ requested r p
-      is-served =
-          serve-answer r p new e layer′ held′ near′ keys′ (answered r new e layer′ held′) w l new-is st refl
-          ∙ sym (requested-served r p (sym (refuse-none r p (sound-iff r .1 w) l room)))
+    pub turn-ready : length layer ≡ 1024 → length held ≡ 64 → Ready N k p layer held
+    turn-ready long seats = run-ready r p w (allowed .0) long seats
 
-      by-event : (x : Event) → x ≡ e → answered r new x layer′ held′ ≡ requested r p → outcome N k (turned c new x) layer′ priority held′ ≡ requested r p
-      unfolding answered with-counts turned
-      by-event (Hit s) h g = let none : c .misses + 0 ≡ c .misses = omega arith in (rw none at g)
-      by-event (Miss s v) h g = let none : c .hits + 0 ≡ c .hits = omega arith in (rw none at g)
-      by-event (Refused n) h g =
-          absurd (never-refused r w p l room n (sym (ap (λ (y : Served). y .event) g)))
+    pub turn-slots : k ≤ 64
+    turn-slots = w .slots .1
 
-      pub turn-is : (t : Turn) → t ≡ turned c new e → outcome N k t layer′ priority held′ ≡ requested r p
-      turn-is t h = rw h (by-event e refl is-served)
+    module _
+        (new key : ℕ)
+        (e : Event)
+        (near keys layer′ held′ near′ keys′ : List ℕ)
+        (seated-is : Seated k layer priority held near keys)
+        (key-is : key ≡ key-of (getD priority p 0) p)
+        (steps : Steps N k p layer held keys key e layer′ held′ near′ keys′)
+      where
+        own : key ≡ key-at (page-keys priority) p
+        own = key-is ∙ sym (keys-entry priority p turn-page)
+
+        run-keys : RunKeys r (page-keys priority)
+        run-keys = record { table = refl; narrow = seated-is .narrow }
+
+        pub turn-is :
+            new ≡ bit (eqb (getD layer p 0) 0) →
+            (t : Turn) →
+            t ≡ turned c new e →
+            outcome N k t layer′ priority held′ ≡ requested r p
+        unfolding next-run
+        turn-is new-is t et =
+            step-taken r p new key (page-keys priority) keys e t layer′ held′ near′ keys′ w (allowed .0) run-keys (seated-is .by-key) own new-is steps et
+            ∙ sym (requested-served r p (sym (refuse-none r p (sound-iff r .1 w) (allowed .0) (allowed .1))))
+
+        pub turn-seated : Seated k layer′ priority held′ near′ keys′
+        turn-seated =
+            let st = steps (ranks r) (key-at (page-keys priority)) (key-at (page-keys priority)) (run-ranked r p (page-keys priority) keys key w run-keys (seated-is .by-key) own) in
+            record { by-near = st .near-is; by-key = st .keys-is; narrow = seated-is .narrow }
 
 -- ---- the tables keep their lengths
 
@@ -76,11 +104,11 @@ pub record Long (r : Run) : Type 0 where
   pub slots : length (r .held) ≡ 64
 
 counted-long : (r : Run) (p hit miss : ℕ) (held : List ℕ) → r .pages ≤ 1024 → length held ≡ 64 → Long (counted r p hit miss held)
-unfolding counted
+unfolding counted next-run
 counted-long r p hit miss held l h =
     record { layers = table-length 1024 (r .pages) 0 _ l; slots = h }
 
-pub request-long : (r : Run) (p : ℕ) → Sound r → Long r → Long (requested r p .run)
+request-long : (r : Run) (p : ℕ) → Sound r → Long r → Long (requested r p .run)
 request-long r p w long = ⊎-elim past below (le-or-lt (r .pages) p)
   where
     refused-long : (n : ℕ) → n ≡ request-refusal r p → (n ≡ 0 → ⊥) → Long (requested r p .run)
@@ -90,12 +118,12 @@ request-long r p w long = ⊎-elim past below (le-or-lt (r .pages) p)
     past h = refused-long 8 (refuse-page r p (sound-iff r .1 w) h) (λ z. omega arith)
 
     below : p < r .pages → Long (requested r p .run)
-    below l = ⊎-elim full room (le-or-lt most-served (r .served))
+    below l = ⊎-elim full room (le-or-lt most-served (r .counts .served))
       where
-        full : most-served ≤ r .served → Long (requested r p .run)
+        full : most-served ≤ r .counts .served → Long (requested r p .run)
         full h = refused-long 9 (refuse-served r p (sound-iff r .1 w) l h) (λ z. omega arith)
 
-        room : r .served < most-served → Long (requested r p .run)
+        room : r .counts .served < most-served → Long (requested r p .run)
         room h =
             ⊎-elim
             (λ i. subst Long (sym (i .run)) (counted-long r p 1 0 (r .held) (w .pages .1) (long .slots)))
@@ -104,16 +132,13 @@ request-long r p w long = ⊎-elim past below (le-or-lt (r .pages) p)
             subst Long (sym (i .run)) (counted-long r p 0 1 (set (r .held) (slot-of r v) p) (w .pages .1) (length-set (r .held) (slot-of r v) p ∙ long .slots)))
             (hit-or-miss r w p l h)
 
-pub long-next : (r : Run) (p : ℕ) (s : Served) → s ≡ requested r p → Sound r → Long r → Long (s .run)
-long-next r p s e w long = rw e (request-long r p w long)
-
 -- ---- a loop of turns
 
 -- Before request i of qs: the run in hand is sound, and what is left of the requests makes of it what all make of the start.
 pub record Replaying (start : Run) (qs : List ℕ) (n : ℕ) (r : Run) (near keys : List ℕ) (i : ℕ) : Type 0 where
   pub sound-is : Sound r
   pub long-is : Long r
-  pub nears : (near ≡ near-of (r .layer) (r .held) (r .slots)) × (keys ≡ keys-of (r .priority) (r .held) (r .slots))
+  pub nears : Seated (r .slots) (r .layer) (r .ranks .priority) (r .held) near keys
   pub reached : i ≤ n
   pub left : run-after r (drop i qs) ≡ run-after start qs
 
@@ -123,26 +148,25 @@ module _ (start : Run) (b : List ℕ) (offset n : ℕ) where
 
   pub replaying-first :
       (near keys : List ℕ) → Sound start → Long start →
-      near ≡ near-of (start .layer) (start .held) (start .slots) → keys ≡ keys-of (start .priority) (start .held) (start .slots) →
+      Seated (start .slots) (start .layer) (start .ranks .priority) (start .held) near keys →
       Replaying start qs n start near keys 0
-  replaying-first near keys w long en ek =
-      record { sound-is = w; long-is = long; nears = (en, ek); reached = omega arith; left = refl }
+  replaying-first near keys w long seats =
+      record { sound-is = w; long-is = long; nears = seats; reached = omega arith; left = refl }
 
   module _ (r : Run) (near keys : List ℕ) (i : ℕ) (now-is : Replaying start qs n r near keys i) where
     pub replaying-next :
         (p : ℕ) (s : Served) (near′ keys′ : List ℕ) →
         i < n → p ≡ request-word b offset i → s ≡ requested r p →
-        near′ ≡ near-of (s .run .layer) (s .run .held) (s .run .slots) →
-        keys′ ≡ keys-of (s .run .priority) (s .run .held) (s .run .slots) →
+        Seated (s .run .slots) (s .run .layer) (s .run .ranks .priority) (s .run .held) near′ keys′ →
         Replaying start qs n (s .run) near′ keys′ (i + 1)
     unfolding run-after
-    replaying-next p s near′ keys′ l e f en ek =
+    replaying-next p s near′ keys′ l e f seats =
         let one : i + 1 ≡ suc i = omega arith in
         rw (one, f, e)
         (record {
           sound-is = request-is-sound r (request-word b offset i) (now-is .sound-is);
           long-is = request-long r (request-word b offset i) (now-is .sound-is) (now-is .long-is);
-          nears = (rw (f, e) at en, rw (f, e) at ek);
+          nears = rw (f, e) at seats;
           reached = l;
           left = rw (asked-next b offset n i l) at (now-is .left);
         })
@@ -152,3 +176,153 @@ module _ (start : Run) (b : List ℕ) (offset n : ℕ) where
     replaying-last l =
         let end : i ≡ n = omega (arith, now-is .reached) in
         rw (end, asked-last b offset n) at (now-is .left)
+
+-- ---- the requests of a file, in the part of it that begins with them
+
+part-request : (b : List ℕ) (offset from i : ℕ) → from ≡ min offset (length b) → request-word (drop from b) 0 i ≡ request-word b offset i
+unfolding word-at
+part-request b offset from i e = ⊎-elim there past (le-or-lt (offset + 2 * i + 2) (length b))
+  where
+    size : length (drop from b) ≡ length b - from
+    size = length-drop from b
+
+    there : offset + 2 * i + 2 ≤ length b → request-word (drop from b) 0 i ≡ request-word b offset i
+    there h =
+        let same : from + (0 + 2 * i) ≡ offset + 2 * i = omega arith in
+        let here = request-there (drop from b) 0 i _ (omega (arith, size)) refl in
+        request-there b offset i _ h (sym here ∙ (rw (drop-drop, same)))
+
+    past : length b < offset + 2 * i + 2 → request-word (drop from b) 0 i ≡ request-word b offset i
+    past h = sym (request-past (drop from b) 0 i (omega (arith, size))) ∙ request-past b offset i h
+
+pub part-asked :
+    (b : List ℕ) (offset from n : ℕ) → from ≡ min offset (length b) → asked (take (length b - from) (drop from b)) 0 n ≡ asked b offset n
+unfolding asked
+part-asked b offset from n e =
+    let whole : take (length b - from) (drop from b) ≡ drop from b = rw (← length-drop from b) (take-length (drop from b)) in
+    rw whole (listed-same n (request-word (drop from b) 0) (request-word b offset) (λ i l. part-request b offset from i e))
+
+-- ---- what is told, a piece behind another
+
+told-none : (t : Bool) → told-length t [] ≡ 0
+unfolding told-length
+told-none true = refl
+told-none false = refl
+
+told-more : (t : Bool) (a b : List ℕ) → told-length t (a ++ b) ≡ told-length t a + told-length t b
+unfolding told-length
+told-more true a b = length-append a b
+told-more false a b = refl
+
+told-nothing : (t w : Bool) (out : List ℕ) (at : ℕ) → told-bytes t w out at [] ≡ out
+unfolding told-bytes
+told-nothing true true out at = put-none out at
+told-nothing true false out at = refl
+told-nothing false w out at = refl
+
+told-size :
+    (t w : Bool) (out : List ℕ) (at : ℕ) (a : List ℕ) →
+    at + told-length t a ≤ told-room t w (length out) →
+    length (told-bytes t w out at a) ≡ length out
+unfolding told-length told-room told-bytes
+told-size true true out at a h = put-length out at a h
+told-size true false out at a h = refl
+told-size false w out at a h = refl
+
+told-then :
+    (t w : Bool) (out : List ℕ) (at : ℕ) (a b : List ℕ) →
+    at + told-length t a ≤ told-room t w (length out) →
+    told-bytes t w (told-bytes t w out at a) (at + told-length t a) b ≡ told-bytes t w out at (a ++ b)
+unfolding told-length told-room told-bytes
+told-then true true out at a b h = put-put out at a b h
+told-then true false out at a b h = refl
+told-then false w out at a b h = refl
+
+-- ---- telling, by what is told
+
+module _ (t w : Bool) (out : List ℕ) (at : ℕ) (a : List ℕ) where
+  abbrev Room : Type 0
+  Room = at + told-length t a ≤ told-room t w (length out)
+
+  abbrev Told : ℕ → List ℕ → Type 0
+  Told n after = (n ≡ at + told-length t a) × (after ≡ told-bytes t w out at a)
+
+  pub tell-none : t ≡ false → Told at out
+  unfolding told-length told-bytes
+  tell-none e = rw e (omega arith, refl)
+
+  module _ (t-is : t ≡ true) where
+    pub write-room : w ≡ true → Room → at + length a ≤ length out
+    unfolding told-length told-room
+    write-room e h = rw (t-is, e) at h
+
+    pub tell-written : w ≡ true → (n : ℕ) (after : List ℕ) → n ≡ at + length a → after ≡ put out at a → Told n after
+    unfolding told-length told-bytes
+    tell-written e n after g h = rw (t-is, e) (g, h)
+
+    pub count-room : w ≡ false → Room → at + length a ≤ 18446744073709551615
+    unfolding told-length told-room
+    count-room e h = rw (t-is, e) at h
+
+    pub tell-counted : w ≡ false → (n : ℕ) → n ≡ length a → Told (at + n) out
+    unfolding told-length told-bytes
+    tell-counted e n g = rw (t-is, e, g) (refl, refl)
+
+-- ---- a loop of turns that tells of them
+
+-- Before request i of qs: the offset in hand, moved by what is left, comes to where the whole ends; what is left, told behind what is
+-- told already, makes the whole.
+pub record Telling (start : Run) (qs : List ℕ) (t w : Bool) (before : List ℕ) (at : ℕ) (out : List ℕ) (r : Run) (next i : ℕ) : Type 0 where
+  pub ends : next + told-length t (event-lines r (drop i qs)) ≡ at + told-length t (event-lines start qs)
+  pub fits : at + told-length t (event-lines start qs) ≤ told-room t w (length before)
+  pub size : length out ≡ length before
+  pub text : told-bytes t w out next (event-lines r (drop i qs)) ≡ told-bytes t w before at (event-lines start qs)
+
+module _ (start : Run) (b : List ℕ) (offset n : ℕ) (t w : Bool) (before : List ℕ) (at : ℕ) where
+  abbrev all : List ℕ
+  all = asked b offset n
+
+  pub telling-first : at + told-length t (event-lines start all) ≤ told-room t w (length before) → Telling start all t w before at before start at 0
+  telling-first h = record { ends = refl; fits = h; size = refl; text = refl }
+
+  module _ (out : List ℕ) (r : Run) (next i : ℕ) (now-is : Telling start all t w before at out r next i) where
+    module _ (p : ℕ) (s : Served) (l : i < n) (e : p ≡ request-word b offset i) (f : s ≡ requested r p) where
+      abbrev line : List ℕ
+      line = event-line p (s .event) (s .best)
+
+      abbrev later : List ℕ
+      later = event-lines (s .run) (drop (suc i) all)
+
+      split : event-lines r (drop i all) ≡ line ++ later
+      unfolding event-lines
+      split = rw (f, e, asked-next b offset n i l)
+
+      within : next + told-length t line + told-length t later ≡ at + told-length t (event-lines start all)
+      within = omega (arith, told-more t line later, (rw split at (now-is .ends)))
+
+      pub line-fits : next + told-length t (event-line p (s .event) (s .best)) ≤ told-room t w (length out)
+      line-fits = rw (now-is .size) (omega (arith, within, now-is .fits))
+
+      pub telling-next :
+          (after : List ℕ) (then : ℕ) →
+          then ≡ next + told-length t (event-line p (s .event) (s .best)) →
+          after ≡ told-bytes t w out next (event-line p (s .event) (s .best)) →
+          Telling start all t w before at after (s .run) then (i + 1)
+      telling-next after then g h =
+          let one : i + 1 ≡ suc i = omega arith in
+          rw one
+          (record {
+            ends = omega (arith, within);
+            fits = now-is .fits;
+            size = ap length h ∙ told-size t w out next line line-fits ∙ now-is .size;
+            text = rw (h, g) (told-then t w out next line later line-fits ∙ (rw split at (now-is .text)));
+          })
+
+    pub telling-last :
+        i ≤ n → n ≤ i → (next ≡ at + told-length t (event-lines start all)) × (out ≡ told-bytes t w before at (event-lines start all))
+    unfolding event-lines
+    telling-last h l =
+        let end : i ≡ n = omega arith in
+        let ends = rw (end, asked-last b offset n) at (now-is .ends) in
+        let text = rw (end, asked-last b offset n) at (now-is .text) in
+        (omega (arith, told-none t, ends), sym (told-nothing t w out next) ∙ text)
