@@ -11,7 +11,7 @@ use Rattle.text.specs.Text.{event-line, first-line, last-line, refused-line}
 
 -- One line for each request in order, then the counts. A refused request leaves its run, and the next is served.
 unfoldable pub lines : Run → List ℕ → List ℕ
-lines r [] = last-line (r .served) (r .hits) (r .misses) (r .best)
+lines r [] = last-line (r .counts .served) (r .counts .hits) (r .counts .misses) (r .counts .best)
 lines r (p ∷ ps) = event-line p (requested r p .event) (requested r p .best) ++ lines (requested r p .run) ps
 
 -- The first line, the requests' lines, the last line. A refused file prints only `refused` and the number.

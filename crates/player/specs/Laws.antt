@@ -23,9 +23,8 @@ use Rattle.trace.specs.Reading.{asked}
 use Rattle.trace.specs.Theorems.{read-header, accepted-read, read-sound, asked-all, told-refusal}
 use Rattle.text.specs.Text.{event-line, first-line, last-line, refused-line}
 use Rattle.text.specs.Laws.{event-line-short, first-line-short, last-line-short, refused-line-short}
-use Rattle.replay.specs.declared.Counts.{Counts}
+use Rattle.counts.specs.declared.Counts.{Counts}
 use Rattle.replay.specs.declared.Played.{Played}
-use Rattle.replay.specs.Replay.{counts-of}
 use Rattle.replay.specs.Told.{event-lines, told-length, told-room, told-bytes}
 use Rattle.player.specs.Answer.{lines, answer-bytes, answer-length, answered}
 
@@ -33,7 +32,7 @@ use Rattle.player.specs.Answer.{lines, answer-bytes, answer-length, answ
 
 lines-short : (r : Run) (ps : List ℕ) → length (lines r ps) ≤ 100 * length ps + 108
 unfolding lines
-lines-short r [] = last-line-short (r .served) (r .hits) (r .misses) (r .best)
+lines-short r [] = last-line-short (r .counts .served) (r .counts .hits) (r .counts .misses) (r .counts .best)
 lines-short r (p ∷ ps) =
     let s : Served = requested r p in
     rw length-append (omega (arith, event-line-short p (s .event) (s .best), lines-short (s .run) ps))
@@ -65,13 +64,13 @@ answer-short b = ⊎-elim fine bad (same-or-not (trace-refusal b) 0)
 abbrev last-of : Counts → List ℕ
 last-of c = last-line (c .served) (c .hits) (c .misses) (c .best)
 
-lines-are : (r : Run) (ps : List ℕ) → lines r ps ≡ event-lines r ps ++ last-of (counts-of (run-after r ps))
+lines-are : (r : Run) (ps : List ℕ) → lines r ps ≡ event-lines r ps ++ last-of (run-after r ps .counts)
 unfolding lines event-lines run-after
 lines-are r [] = refl
 lines-are r (p ∷ ps) =
     let s : Served = requested r p in
     rw (lines-are (s .run) ps)
-    (sym (append-assoc (event-line p (s .event) (s .best)) (event-lines (s .run) ps) (last-of (counts-of (run-after (s .run) ps)))))
+    (sym (append-assoc (event-line p (s .event) (s .best)) (event-lines (s .run) ps) (last-of (run-after (s .run) ps .counts))))
 
 module _ (start : Run) (b : List ℕ) (offset n : ℕ) where
   abbrev qs : List ℕ
@@ -82,22 +81,22 @@ module _ (start : Run) (b : List ℕ) (offset n : ℕ) where
   asked-short = omega (arith, lines-short start qs, listed-length n (request-word b offset))
 
   -- of counts that are those after the requests
-  module _ (c : Counts) (c-is : c ≡ counts-of (run-after start qs)) where
+  module _ (c : Counts) (c-is : c ≡ run-after start qs .counts) where
     with-last : lines start qs ≡ event-lines start qs ++ last-of c
     with-last = rw c-is (lines-are start qs)
 
     with-last-length : length (lines start qs) ≡ length (event-lines start qs) + length (last-of c)
     with-last-length = ap length with-last ∙ length-append (event-lines start qs) (last-of c)
 
-  abbrev events-length : length (lines start qs) ≡ length (event-lines start qs) + length (last-of (counts-of (run-after start qs)))
-  events-length = with-last-length (counts-of (run-after start qs)) refl
+  abbrev events-length : length (lines start qs) ≡ length (event-lines start qs) + length (last-of (run-after start qs .counts))
+  events-length = with-last-length (run-after start qs .counts) refl
 
   -- measured: nothing is lost in counting
   pub events-counted : (size : ℕ) → n ≤ 30000 → 0 + told-length true (event-lines start qs) ≤ told-room true false size
   unfolding told-length told-room
   events-counted size few = omega (arith, asked-short, events-length)
 
-  module _ (p : Played) (c-is : p .counts ≡ counts-of (run-after start qs)) (next-is : p .next ≡ 0 + told-length true (event-lines start qs)) where
+  module _ (p : Played) (c-is : p .counts ≡ run-after start qs .counts) (next-is : p .next ≡ 0 + told-length true (event-lines start qs)) where
     pub lines-measured :
         (m : ℕ) → m ≡ length (last-line (p .counts .served) (p .counts .hits) (p .counts .misses) (p .counts .best)) →
         p .next + m ≡ length (lines start (asked b offset n))
@@ -118,7 +117,7 @@ module _ (start : Run) (b : List ℕ) (offset n : ℕ) where
     unfolding told-length told-room
     events-room = events-fit
 
-    module _ (p : Played) (mid : List ℕ) (c-is : p .counts ≡ counts-of (run-after start qs)) (next-is : p .next ≡ at + told-length true (event-lines start qs)) (mid-is : mid ≡ told-bytes true true out at (event-lines start qs)) where
+    module _ (p : Played) (mid : List ℕ) (c-is : p .counts ≡ run-after start qs .counts) (next-is : p .next ≡ at + told-length true (event-lines start qs)) (mid-is : mid ≡ told-bytes true true out at (event-lines start qs)) where
       abbrev last : List ℕ
       last = last-of (p .counts)
 

@@ -8,7 +8,7 @@ ghost use Rattle.paging.specs.Sets.{_≤?_};
 ghost use Rattle.text.specs.Text.{last-line};
 ghost use Rattle.player.specs.Answer.{lines, answer-bytes, answer-length, answered};
 ghost use Rattle.trace.specs.Reading.{asked};
-use replay::Counts;
+use counts::Counts;
 use run::Run;
 
 // A buffer of this size has room for every answer.

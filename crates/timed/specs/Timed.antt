@@ -18,7 +18,7 @@ use Rattle.trace.specs.Theorems.{accepted-read, read-sound, asked-all, told-ref
 
 -- The misses after all requests of a trace; 0 of a refused file.
 unfoldable pub trace-misses : List ℕ → ℕ
-trace-misses b = if trace-refusal b =? 0 then run-after (traced b .run) (requests-of b) .misses else 0
+trace-misses b = if trace-refusal b =? 0 then run-after (traced b .run) (requests-of b) .counts .misses else 0
 
 -- ---- what is read of a file
 
@@ -37,7 +37,7 @@ module _ (b : List ℕ) (t : Traced) (t-is : t ≡ traced b) where
     pub sound-start : Sound (t .run)
     sound-start = rw t-is (read-sound b ok)
 
-    pub all-misses : (n : ℕ) → n ≡ run-after (t .run) (asked b (t .offset) (t .requests)) .misses → n ≡ trace-misses b
+    pub all-misses : (n : ℕ) → n ≡ run-after (t .run) (asked b (t .offset) (t .requests)) .counts .misses → n ≡ trace-misses b
     unfolding trace-misses
     all-misses n e =
         let requests-is : t .requests ≡ requests-in b = rw (t-is, accepted-read b ok) in

@@ -21,7 +21,7 @@ pub extern "C" fn timed_replay(file: &[u8]) -> u32
 
 // The misses of a run after the requests that begin at an offset of a file, each by the public request.
 fn checked_misses(file: &[u8], offset: usize, requests: usize, start: Run) -> u32
-    ensures { λ r. ⌜ r ≡ run-after start (asked (now (file .entry)) offset requests) .misses ⌝ }
+    ensures { λ r. ⌜ r ≡ run-after start (asked (now (file .entry)) offset requests) .counts .misses ⌝ }
 {
     let mut run = start;
     let mut i = 0;
@@ -31,7 +31,7 @@ fn checked_misses(file: &[u8], offset: usize, requests: usize, start: Run) -> u3
         run = served.run;
         i += 1;
     }
-    run.misses
+    run.counts.misses
 }
 
 // The same misses, by the public request.

@@ -39,7 +39,7 @@ loop-again c =
     (c .before .before .request-at .ensures) (c .before .request .ensures .0)
 
 returns : tie.Need-returns Inv-loop μ-loop
-returns c = ap (λ (r : Run). r .misses) (going-last _ _ _ _ _ _ (c .before .loop .inv) (search needs))
+returns c = ap (λ (r : Run). r .counts .misses) (going-last _ _ _ _ _ _ (c .before .loop .inv) (search needs))
 
 pub checked-misses-spec : {M : Type 1} → statement M
 checked-misses-spec =
