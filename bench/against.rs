@@ -4,7 +4,7 @@ mod work;
 
 use std::ffi::{c_char, c_void, CString};
 use std::hint::black_box;
-use std::process::exit;
+use std::process::{exit, Command};
 use traces::KINDS;
 use work::{rounds, timed, Work, CALLS, FEWER, REQUESTS, ROOM};
 
@@ -89,51 +89,81 @@ impl Build {
     }
 }
 
-/// The best of the rounds for each trace, call and build. A round goes over all traces; now and then take turns in going first.
-fn best(works: &[Work], builds: &[Build; 2]) -> Vec<[[f64; 2]; 4]> {
-    let mut least = vec![[[f64::INFINITY; 2]; 4]; works.len()];
+type Times = [[f64; 2]; 4];
+
+/// One round: the nanoseconds of each trace, call and build, timed twice, now and then in turn. It goes over all traces.
+fn round(works: &[Work], builds: &[Build; 2]) {
     let mut image = Vec::new();
     let mut out = vec![0; ROOM];
-    for round in 0..rounds(9) {
-        for (work, least) in works.iter().zip(&mut least) {
-            for (call, least) in least.iter_mut().enumerate() {
-                for side in [round % 2, 1 - round % 2] {
-                    least[side] = least[side].min(builds[side].sample(work, call, &mut image, &mut out));
-                }
+    for work in works {
+        for call in 0..4 {
+            let mut least = [f64::INFINITY; 2];
+            for side in [0, 1, 1, 0] {
+                least[side] = least[side].min(builds[side].sample(work, call, &mut image, &mut out));
             }
+            println!("{} {}", least[0], least[1]);
+        }
+    }
+}
+
+/// The best of the rounds. Each is a process of its own: where the system puts stack and code is worth some percent.
+fn best(works: &[Work], paths: &[String]) -> Vec<Times> {
+    let mut least = vec![[[f64::INFINITY; 2]; 4]; works.len()];
+    for _ in 0..rounds(9) {
+        let child = Command::new(std::env::current_exe().expect("this program's path")).args(paths).arg("round").output();
+        let text = String::from_utf8(child.expect("a process for the round").stdout).expect("numbers");
+        let mut times = text.split_whitespace().map(|word| word.parse::<f64>().expect("a number"));
+        for least in least.iter_mut().flatten().flatten() {
+            *least = least.min(times.next().expect("a time for each call"));
         }
     }
     least
 }
 
-fn main() {
-    let paths: Vec<String> = std::env::args().skip(1).collect();
-    let [now, then] = &paths[..] else {
-        eprintln!("usage: against NOW.so THEN.so");
-        exit(2);
-    };
-    let limit: f64 = std::env::var("LIMIT").ok().and_then(|text| text.parse().ok()).unwrap_or(1.05);
-    let builds = [Build::load(now), Build::load(then)];
-    let works: Vec<Work> = KINDS.iter().map(|&kind| Work::new(kind, 1024, 64)).collect();
-    for work in &works {
+fn compare(works: &[Work], builds: &[Build; 2]) {
+    for work in works {
         let length = builds[1].text(&work.file, &mut vec![0; ROOM]);
         if builds[0].answers(work, length) != builds[1].answers(work, length) {
             println!("MISMATCH: now and then answer otherwise on {} N={} k={}", work.kind.name(), work.pages, work.slots);
             exit(1);
         }
     }
+}
+
+/// The table, and the worst ratio of each call.
+fn table(works: &[Work], times: &[Times]) -> [f64; 4] {
     println!("\nN=1024 k=64, ns per request, best of {}:\n", rounds(9));
     println!("| Call | Kind | now | then | now / then |");
     println!("|---|---|---:|---:|---:|");
-    let times = best(&works, &builds);
     let mut worst = [0.0f64; 4];
     for (call, name) in CALLS.iter().enumerate() {
-        for (work, times) in works.iter().zip(&times) {
+        for (work, times) in works.iter().zip(times) {
             let [now, then] = times[call];
             worst[call] = worst[call].max(now / then);
             println!("| {name} | {} | {now:.1} | {then:.1} | {:.3} |", work.kind.name(), now / then);
         }
     }
+    worst
+}
+
+fn main() {
+    let words: Vec<String> = std::env::args().skip(1).collect();
+    let (paths, one) = match &words[..] {
+        [_, _] => (&words[..], false),
+        [_, _, word] if word == "round" => (&words[..2], true),
+        _ => {
+            eprintln!("usage: against NOW.so THEN.so");
+            exit(2);
+        }
+    };
+    let builds = [Build::load(&paths[0]), Build::load(&paths[1])];
+    let works: Vec<Work> = KINDS.iter().map(|&kind| Work::new(kind, 1024, 64)).collect();
+    if one {
+        return round(&works, &builds);
+    }
+    compare(&works, &builds);
+    let worst = table(&works, &best(&works, paths));
+    let limit: f64 = std::env::var("LIMIT").ok().and_then(|text| text.parse().ok()).unwrap_or(1.05);
     println!("\nMisses, text bytes, board answers and images are equal. Worst ratio of the kinds, which may be {limit}:\n");
     for (name, worst) in CALLS.iter().zip(&worst) {
         println!("{name}: {worst:.3}{}", if *worst > limit { ", ABOVE THE LIMIT" } else { "" });
