@@ -37,7 +37,7 @@ module _ (r : Run) (room : List ℕ) (size : length room ≡ 3236) where
 
   image-size : length (image-of r) ≡ image-length (r .pages) (r .slots)
   unfolding image-of
-  image-size = stored-length (r .pages) (r .slots) (r .served) (r .hits) (r .misses) (r .best) (r .layer) (r .priority) (r .held)
+  image-size = stored-length (r .pages) (r .slots) (r .counts .served) (r .counts .hits) (r .counts .misses) (r .counts .best) (r .layer) (r .ranks .priority) (r .held)
 
   sound-first : sound r ≡ true → take (stored r room .length) (stored-bytes r room) ≡ record-of r
   unfolding stored stored-bytes record-of

@@ -175,11 +175,14 @@ fn store_refusals(run: Run) {
     number(stored.refusal as u64);
     number(sum(&short));
     let mut odd = run;
-    odd.priority[6] = 1;
+    let mut ranks = odd.ranks;
+    ranks.priority[6] = 1;
+    odd.ranks = ranks;
     let mut b = [7u8; 80];
     let unsound = odd.store(&mut b);
     number(unsound.refusal as u64);
-    odd.priority[6] = 0;
+    ranks.priority[6] = 0;
+    odd.ranks = ranks;
     odd.held[3] = 5;
     let filled = odd.store(&mut b);
     number(filled.refusal as u64);

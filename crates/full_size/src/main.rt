@@ -50,13 +50,13 @@ fn line(page: u64, served: Served) {
 
 fn counts(run: Run) {
     io::write_all(1, b"served ");
-    number(run.served as u64);
+    number(run.counts.served as u64);
     io::write_all(1, b" hits ");
-    number(run.hits as u64);
+    number(run.counts.hits as u64);
     io::write_all(1, b" misses ");
-    number(run.misses as u64);
+    number(run.counts.misses as u64);
     io::write_all(1, b" best ");
-    number(run.best as u64);
+    number(run.counts.best as u64);
     end_line();
 }
 
@@ -96,8 +96,10 @@ fn long_trace(run: Run) -> Run {
 // The last request that a run may serve, and one more.
 fn last_requests(run: Run) {
     let mut r = run;
-    r.served = 999999;
-    r.hits = 999999;
+    let mut late = r.counts;
+    late.served = 999999;
+    late.hits = 999999;
+    r.counts = late;
     let one = r.request(4);
     line(4, one);
     let two = one.run.request(0);

@@ -17,16 +17,17 @@ use Rattle.begin.specs.Begin.{below, different, start-layers, start-priorities,
 use Rattle.run.specs.Numbers.{layer, blank-run}
 use Rattle.run.specs.Cached.{cached}
 use Rattle.run.specs.Sound.{sound}
+use Rattle.counts.specs.Counts.{no-counts, more}
 use Rattle.run.specs.Start.{start-run, started}
-use Rattle.run.specs.Request.{served, counted, with-hit, with-miss, requested}
+use Rattle.run.specs.Request.{served, counted, with-hit, with-miss, requested, next-run}
 use Rattle.words.specs.Words.{bytes, number, words, word-at, put}
 use Rattle.begin.specs.Limits.{limits-refusal}
 use Rattle.image.specs.Layout.{mark-byte, image-header, image-length, image-bytes, offsets-right, image-refusal, image-layers, image-slots}
 use Rattle.image.specs.Layout.{image-priorities, marks-agree}
 use Rattle.run.specs.History.{run-after}
-use Rattle.run.specs.Stored.{image-run, restored, image-of}
+use Rattle.run.specs.Stored.{image-run, restored, image-of, image-counts, after-reading, requested-in}
 use Rattle.serve.specs.Event.{values}
-use Rattle.board.specs.Board.{packed, image-after, answer-of, image-of-reading, board-answer, board-image}
+use Rattle.board.specs.Board.{packed, image-after, board-answer, board-image}
 
 -- `swap` has page, slot, victim, best so far; `hit` page, slot, best so far. A refused request prints `refused`, page, number.
 pub data Line : Type 0 where
@@ -64,18 +65,7 @@ members (suc n) f = members n f ++ (if f n then n ∷ [] else [])
 
 -- A run with n hits more.
 unfoldable pub later : ℕ → Run → Run
-later n r =
-    record {
-      pages = r .pages;
-      slots = r .slots;
-      served = r .served + n;
-      hits = r .hits + n;
-      misses = r .misses;
-      best = r .best;
-      layer = r .layer;
-      priority = r .priority;
-      held = r .held;
-    }
+later n r = next-run r (record { served = r .counts .served + n; hits = r .counts .hits + n; misses = r .counts .misses; best = r .counts .best }) (r .layer) (r .held)
 
 -- The line of each of some requests.
 unfoldable pub lines-of : Run → List ℕ → List Line
@@ -94,7 +84,7 @@ seen-at r ls packed =
       lines = ls;
       layers = listed (suc (r .slots)) (λ j. members (r .pages) (in-layer (layer r) j));
       cached = members (r .pages) (cached r);
-      counts = r .served ∷ r .hits ∷ r .misses ∷ r .best ∷ [];
+      counts = r .counts .served ∷ r .counts .hits ∷ r .counts .misses ∷ r .counts .best ∷ [];
       packed = packed;
     }
 
@@ -253,7 +243,7 @@ worked =
     ∷ []
 
 pub all-hold : map (λ c. played (c .0)) worked ≡ map (λ c. c .1) worked
-unfolding line members later lines-of run-after seen-at begun played worked count each any first lowest listed table only blank-run above start-layer asked-new asked-known next highest together chosen seated seat cached-to full reach lowest-to victim pages-fit slots-fit sound start-layers start-priorities start-slots start-run below different started counted with-hit with-miss served requested answers bytes number words word-at put limits-refusal mark-byte image-header image-length image-bytes offsets-right image-refusal image-layers image-slots image-priorities marks-agree image-run restored image-of values packed image-after answer-of image-of-reading board-answer board-image
+unfolding line members later lines-of run-after seen-at begun played worked count each any first lowest listed table only blank-run above start-layer asked-new asked-known next highest together chosen seated seat cached-to full reach lowest-to victim pages-fit slots-fit sound start-layers start-priorities start-slots start-run no-counts below different started more next-run counted with-hit with-miss served requested answers bytes number words word-at put limits-refusal mark-byte image-header image-length image-bytes offsets-right image-refusal image-layers image-slots image-priorities marks-agree image-counts image-run restored image-of after-reading requested-in values packed image-after board-answer board-image
 all-hold = refl
 
 -- The refusals of a start, in their order: each start is wrong in all that comes later, too, as far as it can be.
