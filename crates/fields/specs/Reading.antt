@@ -100,13 +100,16 @@ module _ (o : Option (List ℕ)) (s last : List ℕ) (r : Count) (read : Read o 
   unfolding Read
   read-none e = rw e at read
 
-module _ (most : ℕ) (w s last : List ℕ) (r : Count) (size : length s ≡ most) where
+module _ (w s : List ℕ) {most : ℕ} {last : List ℕ} {r : Count} (size : length s ≡ most) where
   module _ (p : (r ≡ bytes-count w s) × (last ≡ bytes-after w s)) where
     bytes-read-is : Read (bytes-in most w) s last r
     bytes-read-is = rw (p .0, p .1, ← size) (bytes-told w s)
 
-    pub some-bytes : (n : ℕ) → r ≡ Of n → (bytes-in most w ≡ some (take n last)) × (n ≤ most)
-    some-bytes n e = rw size at (read-some (bytes-in most w) s last r bytes-read-is n e)
+    pub some-bytes : {n : ℕ} {x : List ℕ} → r ≡ Of n → x ≡ take n last → bytes-in most w ≡ some x
+    some-bytes {n} e f = read-some (bytes-in most w) s last r bytes-read-is n e .0 ∙ ap some (sym f)
+
+    pub bytes-few : {n : ℕ} → r ≡ Of n → n ≤ most
+    bytes-few {n} e = rw size at (read-some (bytes-in most w) s last r bytes-read-is n e .1)
 
     pub no-bytes-in : r ≡ Refused → bytes-in most w ≡ none
     no-bytes-in e = read-none (bytes-in most w) s last r bytes-read-is e
@@ -115,8 +118,8 @@ module _ (most : ℕ) (w s last : List ℕ) (r : Count) (size : length s ≡ mos
     list-read-is : Read (list-in most w) s last r
     list-read-is = rw (p .0, p .1, ← size) (list-told w s)
 
-    pub some-numbers : (n : ℕ) → r ≡ Of n → (list-in most w ≡ some (take n last)) × (n ≤ most)
-    some-numbers n e = rw size at (read-some (list-in most w) s last r list-read-is n e)
+    pub some-numbers : {n : ℕ} {x : List ℕ} → r ≡ Of n → x ≡ take n last → list-in most w ≡ some x
+    some-numbers {n} e f = read-some (list-in most w) s last r list-read-is n e .0 ∙ ap some (sym f)
 
     pub no-numbers-in : r ≡ Refused → list-in most w ≡ none
     no-numbers-in e = read-none (list-in most w) s last r list-read-is e
