@@ -1,6 +1,6 @@
 -- Laws of the answers' texts: the record that is stored, an answer that ends with its refusal or goes on, and words that stand
 -- for something or not. Assumes nothing.
-use mathlib.Core.Bool.{true, false, not}
+use mathlib.Core.Bool.{Bool, true, false, not}
 use mathlib.Core.List.{List}
 use mathlib.Core.Logic.{_⊎_, inl, inr}
 use mathlib.Core.Option.{Option, none, some}
@@ -9,6 +9,7 @@ use Prim.Native.Nat.{ℕ, _+_, _≤_}
 use native.Mathlib.Omega.{arith}
 use borrow.Author.Tests.{eq-eqb, ne-eqb, not-true, not-false}
 use lib.ListN.{length, take}
+use Rattle.paging.specs.Sets.{if_then_else_}
 use Rattle.paging.specs.Tests.{truth, clash}
 use Rattle.words.specs.Laws.{take-put}
 use Rattle.image.specs.Layout.{image-length}
@@ -26,8 +27,8 @@ use Rattle.hex.specs.Room.{Wrote}
 use Rattle.hex.specs.Laws.{wrote-then, wrote-as}
 use Rattle.fields.specs.declared.Value.{Value}
 use Rattle.fields.specs.declared.Value.the-variants.{Is, Refused}
-use Rattle.fields.specs.Fields.{word-of, bytes-count, bytes-after, list-in, count-of, list-after}
-use Rattle.fields.specs.Reading.{some-bytes, no-bytes-in, some-numbers, no-numbers-in}
+use Rattle.fields.specs.Fields.{word-of, bytes-count, bytes-after, list-in, count-of, list-after, same-text}
+use Rattle.fields.specs.Reading.{some-bytes, no-bytes-in, some-numbers, no-numbers-in, same-told}
 use Rattle.asked.specs.declared.Described.{Described}
 use Rattle.asked.specs.declared.Paged.{Paged}
 use Rattle.asked.specs.declared.StartWords.{StartWords}
@@ -79,7 +80,7 @@ module _ {n : ℕ} {s : List ℕ} {at mid : ℕ} {t : List ℕ} (first : Wrote s
 
   pub accepted-wrote : {rest : Texts} {r : ℕ} {last : List ℕ} → n ≡ 0 → Wrote t mid rest r last → Wrote s at (unless-refused n rest) r last
   unfolding unless-refused
-  accepted-wrote e then = rw (eq-eqb n 0 e) (wrote-then first then)
+  accepted-wrote e more = rw (eq-eqb n 0 e) (wrote-then first more)
 
 -- ---- a word that stands for something, or not
 
@@ -179,3 +180,13 @@ module _ (line : List ℕ) {s : List ℕ} {at r : ℕ} {last : List ℕ} where
         pub start-bad : not (x .good) ≡ true → Wrote s at bad-line r last → Wrote s at (with-start line answer) r last
         unfolding with-start with-numbers
         start-bad g told = wrote-as (start-none _ _ _ x answer (rw (← size) at (read .0)) (not-true (x .good) g)) told
+
+-- ---- one of two answers, by a comparison with a word
+
+module _ {word other : List ℕ} {same : Bool} (told : (same ≡ true → word ≡ other) × (word ≡ other → same ≡ true)) where
+  module _ {s : List ℕ} {at r : ℕ} {last : List ℕ} where
+    pub same-wrote : {xs : Texts} (ys : Texts) → same ≡ true → Wrote s at xs r last → Wrote s at (if same-text word other then xs else ys) r last
+    same-wrote ys e wrote = rw (sym (same-told word other same told) ∙ e) wrote
+
+    pub other-wrote : (xs : Texts) {ys : Texts} → same ≡ false → Wrote s at ys r last → Wrote s at (if same-text word other then xs else ys) r last
+    other-wrote xs e wrote = rw (sym (same-told word other same told) ∙ e) wrote

@@ -1,6 +1,5 @@
 -- `calls::start_by` meets its contract, by its test. Assumes nothing.
-use mathlib.Core.Path.{sym, _∙_}
-use Rattle.fields.specs.Reading.{same-told}
+use Rattle.answers.specs.Laws.{same-wrote, other-wrote}
 use Rattle.calls.specs.Calls.{prioritised-texts}
 use borrow.Author.Needs.{needs}
 use Rattle.calls.proofs.start_by.Statement.{statement}
@@ -10,13 +9,13 @@ returns : tie.Need-returns
 unfolding prioritised-texts
 returns c =
     let called = c .before .before .before .before in
-    rw (sym (same-told _ _ _ (called .before .before .same .ensures)) ∙ called .before .if1 .taken) (rw (called .start-default .ensures) at (c .before .before .started .ensures))
+    same-wrote (called .before .before .same .ensures) _ (called .before .if1 .taken) (rw (called .start-default .ensures) at (c .before .before .started .ensures))
 
 returns-2 : tie.Need-returns-2
 unfolding prioritised-texts
 returns-2 c =
     let test = c .before .before .before .before in
-    rw (sym (same-told _ _ _ (test .before .same .ensures)) ∙ test .if1 .left) (c .before .before .start-given .ensures)
+    other-wrote (test .before .same .ensures) _ (test .if1 .left) (c .before .before .start-given .ensures)
 
 pub start-by-spec : {M : Type 1} → statement M
 start-by-spec =

@@ -1,6 +1,5 @@
 -- `files::trace_by` meets its contract, by its test. Assumes nothing.
-use mathlib.Core.Path.{sym, _∙_}
-use Rattle.fields.specs.Reading.{same-told}
+use Rattle.answers.specs.Laws.{same-wrote, other-wrote}
 use Rattle.files.specs.Files.{trace-texts, prioritised-texts}
 use borrow.Author.Needs.{needs}
 use Rattle.files.proofs.trace_by.Statement.{statement}
@@ -11,14 +10,14 @@ unfolding prioritised-texts trace-texts
 returns c =
     let wrote = c .before .before .before .before .before .before .before in
     let test = wrote .before .before in
-    rw (sym (same-told _ _ _ (test .before .same .ensures)) ∙ test .if1 .taken)
+    same-wrote (test .before .same .ensures) _ (test .if1 .taken)
     (rw (wrote .write-default .ensures .0, wrote .write-default .ensures .1) at (c .before .before .written .ensures))
 
 returns-2 : tie.Need-returns-2
 unfolding prioritised-texts
 returns-2 c =
     let test = c .before .before .before .before .before .before .before in
-    rw (sym (same-told _ _ _ (test .before .same .ensures)) ∙ test .if1 .left) (c .before .before .before .before .trace-given .ensures)
+    other-wrote (test .before .same .ensures) _ (test .if1 .left) (c .before .before .before .before .trace-given .ensures)
 
 pub trace-by-spec : {M : Type 1} → statement M
 trace-by-spec =
