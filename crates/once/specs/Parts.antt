@@ -3,6 +3,7 @@
 use mathlib.Core.Path.{_≡_, sym, ap, _∙_}
 use Rattle.run.specs.declared.Served.{Served}
 use Rattle.replay.specs.declared.Turn.{Turn}
+use Rattle.hex.specs.Laws.{wrote-once}
 use Rattle.once.specs.Once.{Once, OnceLeft, Left}
 use Rattle.ranking.proofs.default_priority.Reads as ranking-default-priority
 use Rattle.ranking.proofs.outranks.Reads as ranking-outranks
@@ -81,6 +82,7 @@ use Rattle.asked.proofs.number_room.Reads as asked-number-room
 use Rattle.asked.proofs.read_number.Reads as asked-read-number
 use Rattle.asked.proofs.read_run.Reads as asked-read-run
 use Rattle.asked.proofs.read_paged.Reads as asked-read-paged
+use Rattle.asked.proofs.read_start.Reads as asked-read-start
 use Rattle.answers.proofs.bad.Reads as answers-bad
 use Rattle.answers.proofs.refusal.Reads as answers-refusal
 use Rattle.answers.proofs.then_number.Reads as answers-then-number
@@ -339,7 +341,7 @@ pub hex-read-once : OnceLeft hex-read.Post (λ κ s. s .1 .0 .now)
 hex-read-once κ a x y s t p q = (p .0 ∙ sym (q .0), p .1 ∙ sym (q .1))
 
 pub hex-write-once : OnceLeft hex-write.Post (λ κ s. s .0 .now)
-hex-write-once κ a x y s t p q = (p .0 ∙ sym (q .0), p .1 ∙ sym (q .1))
+hex-write-once κ a x y s t p q = wrote-once p q
 
 -- ---- words of a line
 
@@ -371,16 +373,16 @@ pub fields-bytes-once : OnceLeft fields-bytes.Post (λ κ s. s .1 .0 .now)
 fields-bytes-once κ a x y s t p q = (p .0 ∙ sym (q .0), p .1 ∙ sym (q .1))
 
 pub fields-write-word-once : OnceLeft fields-write-word.Post (λ κ s. s .0 .now)
-fields-write-word-once κ a x y s t p q = (p .0 ∙ sym (q .0), p .1 ∙ sym (q .1))
+fields-write-word-once κ a x y s t p q = wrote-once p q
 
 pub fields-write-number-once : OnceLeft fields-write-number.Post (λ κ s. s .0 .now)
-fields-write-number-once κ a x y s t p q = (p .0 ∙ sym (q .0), p .1 ∙ sym (q .1))
+fields-write-number-once κ a x y s t p q = wrote-once p q
 
 pub fields-write-list-once : OnceLeft fields-write-list.Post (λ κ s. s .0 .now)
-fields-write-list-once κ a x y s t p q = (p .0 ∙ sym (q .0), p .1 ∙ sym (q .1))
+fields-write-list-once κ a x y s t p q = wrote-once p q
 
 pub fields-write-bytes-once : OnceLeft fields-write-bytes.Post (λ κ s. s .0 .now)
-fields-write-bytes-once κ a x y s t p q = (p .0 ∙ sym (q .0), p .1 ∙ sym (q .1))
+fields-write-bytes-once κ a x y s t p q = wrote-once p q
 
 -- ---- the trace program
 
@@ -415,73 +417,76 @@ asked-read-run-once κ a x y s t p q = p ∙ sym q
 pub asked-read-paged-once : Once asked-read-paged.Post
 asked-read-paged-once κ a x y s t p q = p ∙ sym q
 
+pub asked-read-start-once : OnceLeft asked-read-start.Post (λ κ s. s .1 .0 .now)
+asked-read-start-once κ a x y s t p q = (p .0 ∙ sym (q .0), p .1 ∙ sym (q .1))
+
 -- ---- the words of an answer
 
 pub answers-bad-once : OnceLeft answers-bad.Post (λ κ s. s .0 .now)
-answers-bad-once κ a x y s t p q = (p .0 ∙ sym (q .0), p .1 ∙ sym (q .1))
+answers-bad-once κ a x y s t p q = wrote-once p q
 
 pub answers-refusal-once : OnceLeft answers-refusal.Post (λ κ s. s .0 .now)
-answers-refusal-once κ a x y s t p q = (p .0 ∙ sym (q .0), p .1 ∙ sym (q .1))
+answers-refusal-once κ a x y s t p q = wrote-once p q
 
 pub answers-then-number-once : OnceLeft answers-then-number.Post (λ κ s. s .0 .now)
-answers-then-number-once κ a x y s t p q = (p .0 ∙ sym (q .0), p .1 ∙ sym (q .1))
+answers-then-number-once κ a x y s t p q = wrote-once p q
 
 pub answers-then-bytes-once : OnceLeft answers-then-bytes.Post (λ κ s. s .0 .now)
-answers-then-bytes-once κ a x y s t p q = (p .0 ∙ sym (q .0), p .1 ∙ sym (q .1))
+answers-then-bytes-once κ a x y s t p q = wrote-once p q
 
 pub answers-then-record-once : OnceLeft answers-then-record.Post (λ κ s. s .0 .now)
-answers-then-record-once κ a x y s t p q = (p .0 ∙ sym (q .0), p .1 ∙ sym (q .1))
+answers-then-record-once κ a x y s t p q = wrote-once p q
 
 pub answers-event-once : OnceLeft answers-event.Post (λ κ s. s .0 .now)
-answers-event-once κ a x y s t p q = (p .0 ∙ sym (q .0), p .1 ∙ sym (q .1))
+answers-event-once κ a x y s t p q = wrote-once p q
 
 -- ---- questions about a run
 
 pub calls-start-once : OnceLeft calls-start.Post (λ κ s. s .1 .0 .now)
-calls-start-once κ a x y s t p q = (p .0 ∙ sym (q .0), p .1 ∙ sym (q .1))
+calls-start-once κ a x y s t p q = wrote-once p q
 
 pub calls-request-once : OnceLeft calls-request.Post (λ κ s. s .1 .0 .now)
-calls-request-once κ a x y s t p q = (p .0 ∙ sym (q .0), p .1 ∙ sym (q .1))
+calls-request-once κ a x y s t p q = wrote-once p q
 
 pub calls-trial-once : OnceLeft calls-trial.Post (λ κ s. s .1 .0 .now)
-calls-trial-once κ a x y s t p q = (p .0 ∙ sym (q .0), p .1 ∙ sym (q .1))
+calls-trial-once κ a x y s t p q = wrote-once p q
 
 pub calls-layer-once : OnceLeft calls-layer.Post (λ κ s. s .1 .0 .now)
-calls-layer-once κ a x y s t p q = (p .0 ∙ sym (q .0), p .1 ∙ sym (q .1))
+calls-layer-once κ a x y s t p q = wrote-once p q
 
 pub calls-certain-once : OnceLeft calls-certain.Post (λ κ s. s .1 .0 .now)
-calls-certain-once κ a x y s t p q = (p .0 ∙ sym (q .0), p .1 ∙ sym (q .1))
+calls-certain-once κ a x y s t p q = wrote-once p q
 
 pub calls-selection-once : OnceLeft calls-selection.Post (λ κ s. s .1 .0 .now)
-calls-selection-once κ a x y s t p q = (p .0 ∙ sym (q .0), p .1 ∙ sym (q .1))
+calls-selection-once κ a x y s t p q = wrote-once p q
 
 pub calls-sound-once : OnceLeft calls-sound.Post (λ κ s. s .1 .0 .now)
-calls-sound-once κ a x y s t p q = (p .0 ∙ sym (q .0), p .1 ∙ sym (q .1))
+calls-sound-once κ a x y s t p q = wrote-once p q
 
 -- ---- questions about frames, files and images
 
 pub files-fill-once : OnceLeft files-fill.Post (λ κ s. s .1 .0 .now)
-files-fill-once κ a x y s t p q = (p .0 ∙ sym (q .0), p .1 ∙ sym (q .1))
+files-fill-once κ a x y s t p q = wrote-once p q
 
 pub files-look-once : OnceLeft files-look.Post (λ κ s. s .1 .0 .now)
-files-look-once κ a x y s t p q = (p .0 ∙ sym (q .0), p .1 ∙ sym (q .1))
+files-look-once κ a x y s t p q = wrote-once p q
 
 pub files-readtrace-once : OnceLeft files-readtrace.Post (λ κ s. s .1 .0 .now)
-files-readtrace-once κ a x y s t p q = (p .0 ∙ sym (q .0), p .1 ∙ sym (q .1))
+files-readtrace-once κ a x y s t p q = wrote-once p q
 
 pub files-writetrace-once : OnceLeft files-writetrace.Post (λ κ s. s .1 .0 .now)
-files-writetrace-once κ a x y s t p q = (p .0 ∙ sym (q .0), p .1 ∙ sym (q .1))
+files-writetrace-once κ a x y s t p q = wrote-once p q
 
 pub files-readimage-once : OnceLeft files-readimage.Post (λ κ s. s .1 .0 .now)
-files-readimage-once κ a x y s t p q = (p .0 ∙ sym (q .0), p .1 ∙ sym (q .1))
+files-readimage-once κ a x y s t p q = wrote-once p q
 
 pub files-writeimage-once : OnceLeft files-writeimage.Post (λ κ s. s .1 .0 .now)
-files-writeimage-once κ a x y s t p q = (p .0 ∙ sym (q .0), p .1 ∙ sym (q .1))
+files-writeimage-once κ a x y s t p q = wrote-once p q
 
 pub files-serve-board-once : OnceLeft files-serve-board.Post (λ κ s. s .1 .0 .now)
-files-serve-board-once κ a x y s t p q = (p .0 ∙ sym (q .0), p .1 ∙ sym (q .1))
+files-serve-board-once κ a x y s t p q = wrote-once p q
 
 -- ---- which question a line is
 
 pub kinds-answer-once : OnceLeft kinds-answer.Post (λ κ s. s .1 .0 .now)
-kinds-answer-once κ a x y s t p q = (p .0 ∙ sym (q .0), p .1 ∙ sym (q .1))
+kinds-answer-once κ a x y s t p q = wrote-once p q
