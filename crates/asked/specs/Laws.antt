@@ -53,8 +53,8 @@ module _ (word : List ℕ) where
 -- what a caller knows of a record, good or not
 pub good-run : (o : Option Run) (d : Described) → d ≡ described o → d .good ≡ true → o ≡ some (d .run)
 unfolding described
-good-run none d e g = absurd (clash g (ap (λ (x : Described). x .good) e))
-good-run (some r) d e g = ap some (sym (ap (λ (x : Described). x .run) e))
+good-run none d e g = absurd (clash g (rw e))
+good-run (some r) d e g = rw e
 
 pub bad-run : (o : Option Run) (d : Described) → d ≡ described o → d .good ≡ false → o ≡ none
 unfolding described
@@ -82,9 +82,9 @@ module _ (line : List ℕ) where
 
 pub good-page : (o : Option Run) (v : Value) (x : Paged) → x ≡ paged o v → x .good ≡ true → (o ≡ some (x .run)) × (v ≡ Is (x .page))
 unfolding paged
-good-page (some r) (Is p) x e g = (ap some (sym (ap (λ (y : Paged). y .run) e)), ap Is (sym (ap (λ (y : Paged). y .page) e)))
-good-page (some r) Refused x e g = absurd (clash g (ap (λ (y : Paged). y .good) e))
-good-page none v x e g = absurd (clash g (ap (λ (y : Paged). y .good) e))
+good-page (some r) (Is p) x e g = (rw e, rw e)
+good-page (some r) Refused x e g = absurd (clash g (rw e))
+good-page none v x e g = absurd (clash g (rw e))
 
 -- ---- the words of a start
 
@@ -119,8 +119,7 @@ pub good-start :
     x .good ≡ true →
     (v ≡ Is (x .pages)) × (u ≡ Is (x .slots)) × (c ≡ Of (x .listed))
 unfolding start-words
-good-start (Is N) (Is k) (Of n) x e g =
-    (ap Is (sym (ap (λ (y : StartWords). y .pages) e)), ap Is (sym (ap (λ (y : StartWords). y .slots) e)), ap Of (sym (ap (λ (y : StartWords). y .listed) e)))
-good-start (Is N) (Is k) counts.Refused x e g = absurd (clash g (ap (λ (y : StartWords). y .good) e))
-good-start (Is N) Refused c x e g = absurd (clash g (ap (λ (y : StartWords). y .good) e))
-good-start Refused u c x e g = absurd (clash g (ap (λ (y : StartWords). y .good) e))
+good-start (Is N) (Is k) (Of n) x e g = (rw e, rw e, rw e)
+good-start (Is N) (Is k) counts.Refused x e g = absurd (clash g (rw e))
+good-start (Is N) Refused c x e g = absurd (clash g (rw e))
+good-start Refused u c x e g = absurd (clash g (rw e))

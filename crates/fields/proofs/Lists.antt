@@ -1,5 +1,5 @@
 -- What a turn of the loops that read and write a list leaves, in the contracts' words. Assumes nothing.
-use mathlib.Core.Bool.{Bool, true, false, _&&_}
+use mathlib.Core.Bool.{Bool, true, false}
 use mathlib.Core.List.{List, [], _∷_}
 use mathlib.Core.Logic.{⊎-elim}
 use mathlib.Core.Path.{_≡_, refl, sym, ap, _∙_}
@@ -22,6 +22,7 @@ use Rattle.fields.specs.declared.Value.{Value}
 use Rattle.fields.specs.declared.Value.the-variants as value
 use Rattle.fields.specs.Fields.{before, number-of, none-word, in-front, parts, number-then, numbers-of, list-in, count-of, list-after, more-texts, list-texts}
 use Rattle.fields.specs.Laws.{put-more}
+use Rattle.fields.proofs.Steps.{and-fails}
 
 -- ---- the parts of a word, one by one
 
@@ -93,10 +94,6 @@ Done word s r last = (r ≡ count-of (list-in (length s) word)) × (last ≡ lis
 pub no-numbers : (word s : List ℕ) → none-word word ≡ true → Done word s (Of 0) s
 unfolding list-in count-of list-after
 no-numbers word s e = (rw e, rw e)
-
-and-fails : (a b : Bool) → b ≡ false → (a && b) ≡ false
-and-fails true b e = e
-and-fails false b e = refl
 
 module _ (word s : List ℕ) (some-is : none-word word ≡ false) where
   abbrev words : List (List ℕ)

@@ -120,7 +120,7 @@ module _ (most n : ℕ) (w : List ℕ) (i : ℕ) where
   unfolding number-from all-decimal value-of
   number-end l h = rw (drop-of-length-le w {i = i} l, le-leb _ _ h)
 
-and-fails : (a b : Bool) → b ≡ false → (a && b) ≡ false
+pub and-fails : (a b : Bool) → b ≡ false → (a && b) ≡ false
 and-fails true b e = e
 and-fails false b e = refl
 
