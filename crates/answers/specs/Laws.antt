@@ -32,7 +32,7 @@ use Rattle.fields.specs.Reading.{some-bytes, no-bytes-in, some-numbers, no-numb
 use Rattle.asked.specs.declared.Described.{Described}
 use Rattle.asked.specs.declared.Paged.{Paged}
 use Rattle.asked.specs.declared.StartWords.{StartWords}
-use Rattle.asked.specs.Asked.{most-in-word, number-in, run-of, described, paged, paged-of, start-words}
+use Rattle.asked.specs.Asked.{most-in-word, number-in, run-of, described, paged, paged-of, start-words, start-of}
 use Rattle.asked.specs.Laws.{good-run, bad-run, good-page, good-start}
 use Rattle.answers.specs.Answers.{Texts, bad-line, refusal-texts, record-of, unless-refused, with-number, with-list, with-bytes, with-numbers, with-run, with-page, with-start}
 
@@ -163,23 +163,21 @@ module _ (line : List ℕ) {s : List ℕ} {at r : ℕ} {last : List ℕ} where
 
   -- the words of a start, as they were read
   module _ (room : List ℕ) {x : StartWords} {after : List ℕ} (answer : ℕ → ℕ → List ℕ → Texts) (size : most-in-word ≡ length room) where
-    module _
-        (read : (x ≡ start-words (number-in (word-of 1 line)) (number-in (word-of 2 line)) (count-of (list-in (length room) (word-of 3 line)))) × (after ≡ list-after (word-of 3 line) room))
-      where
-        pub start-known :
-            {list : List ℕ} →
-            not (x .good) ≡ false →
-            list ≡ take (x .listed) after →
-            Wrote s at (answer (x .pages) (x .slots) list) r last →
-            Wrote s at (with-start line answer) r last
-        unfolding with-start with-numbers with-number with-list
-        start-known g f told =
-            let is = good-start _ _ _ x (read .0) (not-false (x .good) g) in
-            rw (is .0, is .1, some-numbers (word-of 3 line) room (sym size) (refl, read .1) (is .2) f) told
+    module _ (read : (x ≡ start-of (length room) line) × (after ≡ list-after (word-of 3 line) room)) where
+      pub start-known :
+          {list : List ℕ} →
+          not (x .good) ≡ false →
+          list ≡ take (x .listed) after →
+          Wrote s at (answer (x .pages) (x .slots) list) r last →
+          Wrote s at (with-start line answer) r last
+      unfolding with-start with-numbers with-number with-list start-of
+      start-known g f told =
+          let is = good-start _ _ _ x (read .0) (not-false (x .good) g) in
+          rw (is .0, is .1, some-numbers (word-of 3 line) room (sym size) (refl, read .1) (is .2) f) told
 
-        pub start-bad : not (x .good) ≡ true → Wrote s at bad-line r last → Wrote s at (with-start line answer) r last
-        unfolding with-start with-numbers
-        start-bad g told = wrote-as (start-none _ _ _ x answer (rw (← size) at (read .0)) (not-true (x .good) g)) told
+      pub start-bad : not (x .good) ≡ true → Wrote s at bad-line r last → Wrote s at (with-start line answer) r last
+      unfolding with-start with-numbers start-of
+      start-bad g told = wrote-as (start-none _ _ _ x answer (rw (← size) at (read .0)) (not-true (x .good) g)) told
 
 -- ---- one of two answers, by a comparison with a word
 

@@ -13,7 +13,7 @@ use Rattle.hex.specs.declared.Count.the-variants.{Of}
 use Rattle.hex.specs.declared.Count.the-variants as counts
 use Rattle.fields.specs.declared.Value.{Value}
 use Rattle.fields.specs.declared.Value.the-variants.{Is, Refused}
-use Rattle.fields.specs.Fields.{word-of, number-of, bytes-in}
+use Rattle.fields.specs.Fields.{word-of, number-of, list-in, count-of, bytes-in}
 use Rattle.asked.specs.declared.Described.{Described}
 use Rattle.asked.specs.declared.Paged.{Paged}
 use Rattle.asked.specs.declared.StartWords.{StartWords}
@@ -76,3 +76,7 @@ start-words (Is N) (Is k) (Of n) = record { good = true; pages = N; slots = k; l
 start-words (Is N) (Is k) counts.Refused = no-start
 start-words (Is N) Refused c = no-start
 start-words Refused v c = no-start
+
+-- Of a line whose LIST has at most so many pages.
+unfoldable pub start-of : ℕ → List ℕ → StartWords
+start-of most line = start-words (number-in (word-of 1 line)) (number-in (word-of 2 line)) (count-of (list-in most (word-of 3 line)))

@@ -2,8 +2,8 @@
 ghost use mathlib.Core.Path.{_≡_};
 ghost use lib.ListN.{length, replicate};
 ghost use Rattle.image.specs.Layout.{image-refusal};
-ghost use Rattle.fields.specs.Fields.{word-of, list-in, count-of, list-after};
-ghost use Rattle.asked.specs.Asked.{number-in, run-in, run-of, no-run, described, no-page, paged-of, start-words};
+ghost use Rattle.fields.specs.Fields.{word-of, list-after};
+ghost use Rattle.asked.specs.Asked.{number-in, run-in, run-of, no-run, described, no-page, paged-of, start-of};
 use fields::Value;
 use hex::Count;
 use run::Run;
@@ -125,7 +125,7 @@ pub fn read_paged(line: &[u8]) -> Paged
 
 // N, K and LIST, the words behind the first of a line that describes a start; the list goes to the start of a buffer.
 pub fn read_start(line: &[u8], list: &mut [u16]) -> StartWords
-    ensures words { λ r. ⌜ r ≡ start-words (number-in (word-of 1 (now (line .entry)))) (number-in (word-of 2 (now (line .entry)))) (count-of (list-in (length (now (list .entry))) (word-of 3 (now (line .entry))))) ⌝ }
+    ensures words { λ r. ⌜ r ≡ start-of (length (now (list .entry))) (now (line .entry)) ⌝ }
     ensures numbers { λ _. ⌜ now (list .exit) ≡ list-after (word-of 3 (now (line .entry))) (now (list .entry)) ⌝ }
 {
     let first = read_number(fields::word(line, 1));

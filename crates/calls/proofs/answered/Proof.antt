@@ -4,9 +4,6 @@ use borrow.Author.Needs.{needs}
 use Rattle.calls.proofs.answered.Statement.{statement}
 use Rattle.calls.proofs.answered.Tie as tie
 
-returns : tie.Need-returns
-returns c = refused-served _ (c .before .before .before .before .event .ensures) (c .enum-told .given .1)
-
 returns-2 : tie.Need-returns-2
 returns-2 c =
     let served = c .before .before .before .before in
@@ -16,5 +13,5 @@ pub answered-spec : {M : Type 1} → statement M
 answered-spec =
     tie.close
     (tie.spec
-    (search needs) (search needs) (search needs) returns
+    (search needs) (search needs) (search needs) (λ c. search refused-served)
     (search needs) (search needs) returns-2)

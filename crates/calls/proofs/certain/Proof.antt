@@ -5,12 +5,6 @@ use borrow.Author.Needs.{needs}
 use Rattle.calls.proofs.certain.Statement.{statement}
 use Rattle.calls.proofs.certain.Tie as tie
 
-returns : tie.Need-returns
-unfolding certain-answer
-returns c =
-    let read = c .before .before .before .before in
-    page-bad _ _ (read .before .before .read-paged .ensures) (read .if1 .taken) (c .before .before .bad .ensures)
-
 returns-2 : tie.Need-returns-2
 unfolding certain-answer certain-texts
 returns-2 c =
@@ -18,8 +12,9 @@ returns-2 c =
     page-known _ _ (read .before .before .read-paged .ensures) (read .if1 .left) (rw (c .before .before .before .before .before .certain .ensures) at (c .before .before .number-unless .ensures))
 
 pub certain-spec : {M : Type 1} → statement M
+unfolding certain-answer
 certain-spec =
     tie.close
     (tie.spec
-    (search needs) (search needs) (search needs) returns
+    (search needs) (search needs) (search needs) (λ c. search page-bad)
     (search needs) (search needs) (search needs) (search needs) returns-2)

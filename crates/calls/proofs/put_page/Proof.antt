@@ -17,4 +17,7 @@ returns-2 c =
 
 pub put-page-spec : {M : Type 1} → statement M
 put-page-spec =
-    tie.close (tie.spec (search needs) (search needs) (search needs) (search needs) returns returns-2)
+    tie.close
+    (tie.spec
+    (search needs) (search needs) (search needs) (search needs) returns
+    returns-2)

@@ -9,13 +9,6 @@ use borrow.Author.Needs.{needs}
 use Rattle.calls.proofs.selection.Statement.{statement}
 use Rattle.calls.proofs.selection.Tie as tie
 
-returns : tie.Need-returns
-unfolding selection-answer
-returns c =
-    let test = c .before .before .before .before in
-    let read = test .before .before in
-    run-bad (read .before .word .ensures) _ (read .read-run .ensures) (test .if1 .taken) (c .before .before .bad .ensures)
-
 returns-2 : tie.Need-returns-2
 unfolding selection-answer
 returns-2 c =
@@ -46,10 +39,13 @@ returns-3 c =
     (c .before .before .write-list .ensures)))
 
 pub selection-spec : {M : Type 1} → statement M
+unfolding selection-answer
 selection-spec =
     tie.close
     (tie.spec
-    (search needs) (search needs) (search needs) (search needs) returns
+    (search needs) (search needs) (search needs) (search needs) (λ c. search run-bad)
     (search needs) (search needs) (search needs) returns-2
-    (λ c. search needs) (λ c. search needs) (λ c κs. search needs) (search needs) (search needs)
-    (search needs) (search needs) (search needs) (search needs) returns-3)
+    (λ c. search needs)
+    (λ c. search needs)
+    (λ c κs. search needs)
+    (search needs) (search needs) (search needs) (search needs) (search needs) (search needs) returns-3)

@@ -5,13 +5,6 @@ use borrow.Author.Needs.{needs}
 use Rattle.calls.proofs.sound.Statement.{statement}
 use Rattle.calls.proofs.sound.Tie as tie
 
-returns : tie.Need-returns
-unfolding sound-answer
-returns c =
-    let test = c .before .before .before .before in
-    let read = test .before .before in
-    run-bad (read .before .word .ensures) _ (read .read-run .ensures) (test .if1 .taken) (c .before .before .bad .ensures)
-
 returns-2 : tie.Need-returns-2
 unfolding sound-answer
 returns-2 c =
@@ -21,8 +14,9 @@ returns-2 c =
     (rw (c .before .before .before .is-sound .ensures) at (c .before .before .write-number .ensures))
 
 pub sound-spec : {M : Type 1} → statement M
+unfolding sound-answer
 sound-spec =
     tie.close
     (tie.spec
-    (search needs) (search needs) (search needs) (search needs) returns
+    (search needs) (search needs) (search needs) (search needs) (λ c. search run-bad)
     (search needs) (search needs) (search needs) (search needs) returns-2)

@@ -11,15 +11,10 @@ returns c =
     let called = c .before .before .before .before in
     same-wrote (called .before .before .same .ensures) _ (called .before .if1 .taken) (rw (called .start-default .ensures) at (c .before .before .started .ensures))
 
-returns-2 : tie.Need-returns-2
-unfolding prioritised-texts
-returns-2 c =
-    let test = c .before .before .before .before in
-    other-wrote (test .before .same .ensures) _ (test .if1 .left) (c .before .before .start-given .ensures)
-
 pub start-by-spec : {M : Type 1} → statement M
+unfolding prioritised-texts
 start-by-spec =
     tie.close
     (tie.spec
     (search needs) (search needs) (search needs) (search needs) (search needs) returns
-    (search needs) (search needs) returns-2)
+    (search needs) (search needs) (λ c. search other-wrote))

@@ -25,5 +25,6 @@ pub start-given-spec : {M : Type 1} → statement M
 start-given-spec =
     tie.close
     (tie.spec
-    (search needs) (search needs) (search needs) (search needs) (search needs) (search needs) (search needs) returns
+    (search needs) (search needs) (search needs) (search needs) (search needs) (search needs) (search needs)
+    returns
     (search needs) (search needs) (search needs) (search needs) (search needs) returns-2)

@@ -18,9 +18,4 @@ returns-3 c =
     bytes-some _ _ _ _ (sym (d .before .is-none .ensures) ∙ d .if1 .left) (λ e. omega arith) (c .before .before .read .ensures)
 
 pub bytes-spec : {M : Type 1} → statement M
-bytes-spec =
-    tie.close
-    (tie.spec
-    (search needs) returns
-    returns-2
-    (search needs) (search needs) returns-3)
+bytes-spec = tie.close (tie.spec (search needs) returns returns-2 (search needs) (search needs) returns-3)

@@ -13,4 +13,7 @@ returns-2 c = part-is (c .before .before .args .numbers .now) (c .before .before
 
 pub first-numbers-spec : {M : Type 1} → statement M
 first-numbers-spec =
-    tie.close (tie.spec returns (search needs) (search needs) (search needs) (search needs) returns-2)
+    tie.close
+    (tie.spec
+    returns
+    (search needs) (search needs) (search needs) (search needs) returns-2)

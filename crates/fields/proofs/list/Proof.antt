@@ -57,6 +57,7 @@ list-spec =
     loop-holds
     (search needs) (search needs) (search needs) (search needs) (search needs) (search needs) (search needs)
     (search needs) returns-2
-    (search needs) (search needs) (search needs) (search needs) (λ c. search needs) returns-3
+    (search needs) (search needs) (search needs) (search needs) (λ c. search needs)
+    returns-3
     (search needs) (search needs) loop-again
     (search needs) returns-4)

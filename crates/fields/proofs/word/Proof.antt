@@ -12,4 +12,6 @@ returns c =
 
 pub word-spec : {M : Type 1} → statement M
 word-spec =
-    tie.close (tie.spec (search needs) (search needs) (search needs) (search needs) (search needs) returns)
+    tie.close
+    (tie.spec
+    (search needs) (search needs) (search needs) (search needs) (search needs) returns)

@@ -5,12 +5,6 @@ use borrow.Author.Needs.{needs}
 use Rattle.files.proofs.look.Statement.{statement}
 use Rattle.files.proofs.look.Tie as tie
 
-returns : tie.Need-returns
-unfolding look-answer
-returns c =
-    let test = c .before .before .before .before in
-    page-bad _ _ (test .before .before .read-paged .ensures) (test .if1 .taken) (c .before .before .bad .ensures)
-
 returns-2 : tie.Need-returns-2
 unfolding look-answer
 returns-2 c =
@@ -29,10 +23,11 @@ returns-3 c =
     (bytes-known (read .before .before .word .ensures) _ _ (read .before .before .before .byte-room .ensures .1) (read .bytes .ensures) (third .third .given .1) (c .before .before .before .before .first .ensures) (c .before .before .looked .ensures))
 
 pub look-spec : {M : Type 1} → statement M
+unfolding look-answer
 look-spec =
     tie.close
     (tie.spec
-    (search needs) (search needs) (search needs) returns
+    (search needs) (search needs) (search needs) (λ c. search page-bad)
     (search needs) (search needs) (search needs) (search needs) (search needs) (search needs) (search needs)
     (search needs) returns-2
     (search needs) (search needs) (search needs) (search needs) returns-3)

@@ -13,15 +13,10 @@ returns c =
     same-wrote (test .before .same .ensures) _ (test .if1 .taken)
     (rw (wrote .write-default .ensures .0, wrote .write-default .ensures .1) at (c .before .before .written .ensures))
 
-returns-2 : tie.Need-returns-2
-unfolding prioritised-texts
-returns-2 c =
-    let test = c .before .before .before .before .before .before .before in
-    other-wrote (test .before .same .ensures) _ (test .if1 .left) (c .before .before .before .before .trace-given .ensures)
-
 pub trace-by-spec : {M : Type 1} → statement M
+unfolding prioritised-texts
 trace-by-spec =
     tie.close
     (tie.spec
     (search needs) (search needs) (search needs) (search needs) (search needs) (search needs) returns
-    (search needs) (search needs) (search needs) returns-2)
+    (search needs) (search needs) (search needs) (λ c. search other-wrote))

@@ -25,5 +25,6 @@ pub trace-given-spec : {M : Type 1} → statement M
 trace-given-spec =
     tie.close
     (tie.spec
-    (search needs) (search needs) (search needs) (search needs) (search needs) (search needs) (search needs) returns
+    (search needs) (search needs) (search needs) (search needs) (search needs) (search needs) (search needs)
+    returns
     (search needs) (search needs) (search needs) (search needs) (search needs) (search needs) returns-2)

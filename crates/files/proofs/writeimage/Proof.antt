@@ -9,13 +9,6 @@ use borrow.Author.Needs.{needs}
 use Rattle.files.proofs.writeimage.Statement.{statement}
 use Rattle.files.proofs.writeimage.Tie as tie
 
-returns : tie.Need-returns
-unfolding writeimage-answer
-returns c =
-    let test = c .before .before .before .before in
-    let run = test .before .before in
-    run-bad (run .before .word .ensures) _ (run .read-run .ensures) (test .if1 .taken) (c .before .before .bad .ensures)
-
 returns-2 : tie.Need-returns-2
 unfolding writeimage-answer
 returns-2 c =
@@ -42,10 +35,11 @@ returns-3 c =
     (bytes-known (read .before .before .word2 .ensures) _ _ (read .before .before .before .byte-room .ensures .1) (read .bytes .ensures) (counted .count .given .1) (part-is (read .bytes .last .1 .0) (counted .count .given .0 .0)) (c .before .before .before .stored .ensures))
 
 pub writeimage-spec : {M : Type 1} → statement M
+unfolding writeimage-answer
 writeimage-spec =
     tie.close
     (tie.spec
-    (search needs) (search needs) (search needs) (search needs) returns
+    (search needs) (search needs) (search needs) (search needs) (λ c. search run-bad)
     (search needs) (search needs) (search needs) (search needs) (search needs) (search needs) (search needs)
     (search needs) returns-2
     (search needs) (search needs) part-buffer-end

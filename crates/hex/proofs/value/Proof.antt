@@ -26,11 +26,4 @@ unfolding value-of
 returns-5 c = simp (le-ltb _ _ (c .before .before .before .if1 .left), lt-leb _ _ (c .before .before .if2 .left), le-ltb _ _ (c .before .if3 .left), lt-leb _ _ (c .if4 .left))
 
 pub value-spec : {M : Type 1} → statement M
-value-spec =
-    tie.close
-    (tie.spec
-    returns
-    returns-2
-    returns-3
-    (search needs) returns-4
-    returns-5)
+value-spec = tie.close (tie.spec returns returns-2 returns-3 (search needs) returns-4 returns-5)

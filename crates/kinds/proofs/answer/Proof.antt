@@ -10,8 +10,7 @@ unfolding of-words
 answer-spec =
     tie.close
     (tie.spec
-    (search needs) (search needs)
-    (search needs) (search needs) (λ c. search (as-many, line-wrote))
+    (search needs) (search needs) (search needs) (search needs) (λ c. search (as-many, line-wrote))
     (search needs) (search needs) (λ c. search (as-many, not-as-many, line-wrote) depth 9)
     (search needs) (search needs) (λ c. search (as-many, not-as-many, line-wrote) depth 9)
     (search needs) (search needs) (λ c. search (as-many, not-as-many, line-wrote) depth 9)
