@@ -12,7 +12,8 @@ use Rattle.run.specs.Stored.{image-of}
 use Rattle.text.specs.Text.{decimal, space}
 use Rattle.fields.specs.declared.Value.{Value}
 use Rattle.fields.specs.declared.Value.the-variants as value
-use Rattle.fields.specs.Fields.{bytes-word}
+use Rattle.fields.specs.Fields.{word-of, list-in, bytes-in, bytes-word}
+use Rattle.asked.specs.Asked.{most-in-word, number-in, run-of}
 
 abbrev pub Texts : Type 0
 Texts = List (List ℕ)
@@ -63,6 +64,20 @@ unfoldable pub with-run : Option Run → (Run → Texts) → Texts
 with-run (some r) answer = answer r
 with-run none answer = bad-line
 
--- A run and a page.
-unfoldable pub with-page : Option Run → Value → (Run → ℕ → Texts) → Texts
-with-page run page answer = with-run run (λ r. with-number page (λ p. answer r p))
+-- The bytes and the numbers of a word of a line.
+unfoldable pub with-bytes : List ℕ → (List ℕ → Texts) → Texts
+with-bytes word = with-list (bytes-in most-in-word word)
+
+unfoldable pub with-numbers : List ℕ → (List ℕ → Texts) → Texts
+with-numbers word = with-list (list-in most-in-word word)
+
+-- The words behind the first of a line: RECORD PAGE, and N K LIST.
+unfoldable pub with-page : List ℕ → (Run → ℕ → Texts) → Texts
+with-page line answer = with-run (run-of (word-of 1 line)) (λ r. with-number (number-in (word-of 2 line)) (λ p. answer r p))
+
+unfoldable pub with-start : List ℕ → (ℕ → ℕ → List ℕ → Texts) → Texts
+with-start line answer =
+    with-number (number-in (word-of 1 line)) (λ N.
+    with-number (number-in (word-of 2 line)) (λ k.
+    with-numbers (word-of 3 line) (λ list.
+    answer N k list)))

@@ -1,15 +1,16 @@
 -- Laws of the answers' texts: the record that is stored, an answer that ends with its refusal or goes on, and words that stand
 -- for something or not. Assumes nothing.
-use mathlib.Core.Bool.{true, false}
-use mathlib.Core.List.{List, _++_}
-use mathlib.Core.Logic.{_⊎_, inl, inr, ⊎-elim}
+use mathlib.Core.Bool.{Bool, true, false, not}
+use mathlib.Core.List.{List}
+use mathlib.Core.Logic.{_⊎_, inl, inr}
 use mathlib.Core.Option.{Option, none, some}
-use mathlib.Core.Path.{_≡_, _∙_}
+use mathlib.Core.Path.{_≡_, refl, sym, ap, _∙_}
 use Prim.Native.Nat.{ℕ, _+_, _≤_}
 use native.Mathlib.Omega.{arith}
-use borrow.Author.Tests.{eq-eqb, ne-eqb}
+use borrow.Author.Tests.{eq-eqb, ne-eqb, not-true, not-false}
 use lib.ListN.{length, take}
-use Rattle.paging.specs.Tests.{truth}
+use Rattle.paging.specs.Sets.{if_then_else_}
+use Rattle.paging.specs.Tests.{truth, clash}
 use Rattle.words.specs.Laws.{take-put}
 use Rattle.image.specs.Layout.{image-length}
 use Rattle.image.specs.Theorems.{stored-length}
@@ -19,14 +20,21 @@ use Rattle.run.specs.Sound.{sound}
 use Rattle.run.specs.SoundLaws.{sound-iff}
 use Rattle.run.specs.Stored.{image-of, stored, stored-bytes}
 use Rattle.run.specs.Storing.{store-unsound, store-none, length-is}
-use Rattle.hex.specs.Laws.{Told, told-then}
+use Rattle.hex.specs.declared.Count.{Count}
+use Rattle.hex.specs.declared.Count.the-variants.{Of}
+use Rattle.hex.specs.declared.Count.the-variants as counts
+use Rattle.hex.specs.Room.{Wrote}
+use Rattle.hex.specs.Laws.{wrote-then, wrote-as}
 use Rattle.fields.specs.declared.Value.{Value}
 use Rattle.fields.specs.declared.Value.the-variants.{Is, Refused}
+use Rattle.fields.specs.Fields.{word-of, bytes-count, bytes-after, list-in, count-of, list-after, same-text}
+use Rattle.fields.specs.Reading.{some-bytes, no-bytes-in, some-numbers, no-numbers-in, same-told}
 use Rattle.asked.specs.declared.Described.{Described}
 use Rattle.asked.specs.declared.Paged.{Paged}
-use Rattle.asked.specs.Asked.{described, paged}
-use Rattle.asked.specs.Laws.{good-run, bad-run, good-page, bad-page}
-use Rattle.answers.specs.Answers.{Texts, bad-line, refusal-texts, record-of, unless-refused, with-number, with-list, with-run, with-page}
+use Rattle.asked.specs.declared.StartWords.{StartWords}
+use Rattle.asked.specs.Asked.{most-in-word, number-in, run-of, described, paged, paged-of, start-words, start-of}
+use Rattle.asked.specs.Laws.{good-run, bad-run, good-page, good-start}
+use Rattle.answers.specs.Answers.{Texts, bad-line, refusal-texts, record-of, unless-refused, with-number, with-list, with-bytes, with-numbers, with-run, with-page, with-start}
 
 -- ---- the record of a run
 
@@ -65,67 +73,118 @@ module _ (r : Run) (room : List ℕ) (size : length room ≡ 3236) where
 
 -- ---- a refusal, and an answer behind it
 
-module _ (n : ℕ) (rest : Texts) where
-  pub refused-ends : (n ≡ 0 → ⊥) → unless-refused n rest ≡ refusal-texts n
+module _ {n : ℕ} {s : List ℕ} {at mid : ℕ} {t : List ℕ} (first : Wrote s at (refusal-texts n) mid t) where
+  pub refused-wrote : (rest : Texts) → (n ≡ 0 → ⊥) → Wrote s at (unless-refused n rest) mid t
   unfolding unless-refused
-  refused-ends ne = rw (ne-eqb n 0 ne)
+  refused-wrote rest ne = rw (ne-eqb n 0 ne) first
 
-  pub accepted-goes-on : n ≡ 0 → unless-refused n rest ≡ refusal-texts n ++ rest
+  pub accepted-wrote : {rest : Texts} {r : ℕ} {last : List ℕ} → n ≡ 0 → Wrote t mid rest r last → Wrote s at (unless-refused n rest) r last
   unfolding unless-refused
-  accepted-goes-on e = rw (eq-eqb n 0 e)
-
-  module _ (s : List ℕ) (at mid : ℕ) (t : List ℕ) (first : Told s at (refusal-texts n) mid t) where
-    pub refused-told : (n ≡ 0 → ⊥) → Told s at (unless-refused n rest) mid t
-    refused-told ne = rw (refused-ends ne) first
-
-    pub accepted-told : (r : ℕ) (last : List ℕ) → n ≡ 0 → Told t mid rest r last → Told s at (unless-refused n rest) r last
-    accepted-told r last e then = rw (accepted-goes-on e) (told-then s at (refusal-texts n) rest mid t r last first then)
+  accepted-wrote e more = rw (eq-eqb n 0 e) (wrote-then first more)
 
 -- ---- a word that stands for something, or not
 
-module _ (s : List ℕ) (at r : ℕ) (last : List ℕ) where
-  pub number-known : (v : Value) (n : ℕ) (answer : ℕ → Texts) → v ≡ Is n → Told s at (answer n) r last → Told s at (with-number v answer) r last
-  unfolding with-number
-  number-known v n answer e told = rw e told
+module _ {s : List ℕ} {at r : ℕ} {last w word : List ℕ} (w-is : w ≡ word) where
+  module _ {v : Value} (answer : ℕ → Texts) (read : v ≡ number-in w) where
+    pub number-known : {n : ℕ} → v ≡ Is n → Wrote s at (answer n) r last → Wrote s at (with-number (number-in word) answer) r last
+    unfolding with-number
+    number-known e told = rw (← w-is, ← read, e) told
 
-  pub number-bad : (v : Value) (answer : ℕ → Texts) → v ≡ Refused → Told s at bad-line r last → Told s at (with-number v answer) r last
-  unfolding with-number
-  number-bad v answer e told = rw e told
+    pub number-bad : v ≡ Refused → Wrote s at bad-line r last → Wrote s at (with-number (number-in word) answer) r last
+    unfolding with-number
+    number-bad e told = rw (← w-is, ← read, e) told
 
-  pub list-known :
-      (o : Option (List ℕ)) (list : List ℕ) (answer : List ℕ → Texts) → o ≡ some list → Told s at (answer list) r last → Told s at (with-list o answer) r last
-  unfolding with-list
-  list-known o list answer e told = rw e told
+  module _ (room : List ℕ) {c : Count} {after : List ℕ} (answer : List ℕ → Texts) (size : most-in-word ≡ length room) where
+    module _ (read : (c ≡ bytes-count w room) × (after ≡ bytes-after w room)) where
+      pub bytes-known : {n : ℕ} {x : List ℕ} → c ≡ Of n → x ≡ take n after → Wrote s at (answer x) r last → Wrote s at (with-bytes word answer) r last
+      unfolding with-bytes with-list
+      bytes-known e f told = rw (← w-is, some-bytes w room (sym size) read e f) told
 
-  pub list-bad : (o : Option (List ℕ)) (answer : List ℕ → Texts) → o ≡ none → Told s at bad-line r last → Told s at (with-list o answer) r last
-  unfolding with-list
-  list-bad o answer e told = rw e told
+      pub bytes-bad : c ≡ counts.Refused → Wrote s at bad-line r last → Wrote s at (with-bytes word answer) r last
+      unfolding with-bytes with-list
+      bytes-bad e told = rw (← w-is, no-bytes-in w room (sym size) read e) told
+
+    module _ (read : (c ≡ count-of (list-in (length room) w)) × (after ≡ list-after w room)) where
+      pub numbers-known : {n : ℕ} {x : List ℕ} → c ≡ Of n → x ≡ take n after → Wrote s at (answer x) r last → Wrote s at (with-numbers word answer) r last
+      unfolding with-numbers with-list
+      numbers-known e f told = rw (← w-is, some-numbers w room (sym size) read e f) told
+
+      pub numbers-bad : c ≡ counts.Refused → Wrote s at bad-line r last → Wrote s at (with-numbers word answer) r last
+      unfolding with-numbers with-list
+      numbers-bad e told = rw (← w-is, no-numbers-in w room (sym size) read e) told
 
   -- a record, as it was read
-  module _ (o : Option Run) (d : Described) (read : d ≡ described o) (answer : Run → Texts) where
-    pub run-known : d .good ≡ true → Told s at (answer (d .run)) r last → Told s at (with-run o answer) r last
+  module _ {d : Described} (answer : Run → Texts) (read : d ≡ described (run-of w)) where
+    pub run-known : not (d .good) ≡ false → Wrote s at (answer (d .run)) r last → Wrote s at (with-run (run-of word) answer) r last
     unfolding with-run
-    run-known g told = rw (good-run o d read g) told
+    run-known g told = rw (← w-is, good-run (run-of w) d read (not-false (d .good) g)) told
 
-    pub run-bad : d .good ≡ false → Told s at bad-line r last → Told s at (with-run o answer) r last
+    pub run-bad : not (d .good) ≡ true → Wrote s at bad-line r last → Wrote s at (with-run (run-of word) answer) r last
     unfolding with-run
-    run-bad g told = rw (bad-run o d read g) told
+    run-bad g told = rw (← w-is, bad-run (run-of w) d read (not-true (d .good) g)) told
 
-  no-run : (o : Option Run) (v : Value) (answer : Run → ℕ → Texts) → o ≡ none → Told s at bad-line r last → Told s at (with-page o v answer) r last
-  unfolding with-page with-run
-  no-run o v answer e told = rw e told
+-- ---- words that stand for something together, or not
 
-  no-number :
-      (o : Option Run) (v : Value) (answer : Run → ℕ → Texts) → v ≡ Refused → Told s at bad-line r last → Told s at (with-page o v answer) r last
-  unfolding with-page with-run with-number
-  no-number none v answer e told = told
-  no-number (some x) v answer e told = rw e told
+-- a record and a page, of which one is bad
+page-none :
+    (o : Option Run) (v : Value) (x : Paged) (answer : Run → ℕ → Texts) →
+    x ≡ paged o v →
+    x .good ≡ false →
+    with-run o (λ r. with-number v (λ p. answer r p)) ≡ bad-line
+unfolding with-run with-number paged
+page-none none v x answer e g = refl
+page-none (some r) Refused x answer e g = refl
+page-none (some r) (Is p) x answer e g = absurd (clash (ap (λ (y : Paged). y .good) e) g)
 
+-- the words of a start, of which one is bad
+start-none :
+    (v u : Value) (o : Option (List ℕ)) (x : StartWords) (answer : ℕ → ℕ → List ℕ → Texts) →
+    x ≡ start-words v u (count-of o) →
+    x .good ≡ false →
+    with-number v (λ N. with-number u (λ k. with-list o (λ list. answer N k list))) ≡ bad-line
+unfolding with-number with-list start-words count-of
+start-none Refused u o x answer e g = refl
+start-none (Is N) Refused o x answer e g = refl
+start-none (Is N) (Is k) none x answer e g = refl
+start-none (Is N) (Is k) (some list) x answer e g = absurd (clash (ap (λ (y : StartWords). y .good) e) g)
+
+module _ (line : List ℕ) {s : List ℕ} {at r : ℕ} {last : List ℕ} where
   -- a record and a page, as they were read
-  module _ (o : Option Run) (v : Value) (x : Paged) (read : x ≡ paged o v) (answer : Run → ℕ → Texts) where
-    pub page-known : x .good ≡ true → Told s at (answer (x .run) (x .page)) r last → Told s at (with-page o v answer) r last
-    unfolding with-page with-run with-number
-    page-known g told = rw (good-page o v x read g .0, good-page o v x read g .1) told
+  module _ {x : Paged} (answer : Run → ℕ → Texts) (read : x ≡ paged-of line) where
+    pub page-known : not (x .good) ≡ false → Wrote s at (answer (x .run) (x .page)) r last → Wrote s at (with-page line answer) r last
+    unfolding with-page with-run with-number paged-of
+    page-known g told =
+        let is = good-page _ _ x read (not-false (x .good) g) in
+        rw (is .0, is .1) told
 
-    pub page-bad : x .good ≡ false → Told s at bad-line r last → Told s at (with-page o v answer) r last
-    page-bad g told = ⊎-elim (λ e. no-run o v answer e told) (λ e. no-number o v answer e told) (bad-page o v x read g)
+    pub page-bad : not (x .good) ≡ true → Wrote s at bad-line r last → Wrote s at (with-page line answer) r last
+    unfolding with-page paged-of
+    page-bad g told = wrote-as (page-none _ _ x answer read (not-true (x .good) g)) told
+
+  -- the words of a start, as they were read
+  module _ (room : List ℕ) {x : StartWords} {after : List ℕ} (answer : ℕ → ℕ → List ℕ → Texts) (size : most-in-word ≡ length room) where
+    module _ (read : (x ≡ start-of (length room) line) × (after ≡ list-after (word-of 3 line) room)) where
+      pub start-known :
+          {list : List ℕ} →
+          not (x .good) ≡ false →
+          list ≡ take (x .listed) after →
+          Wrote s at (answer (x .pages) (x .slots) list) r last →
+          Wrote s at (with-start line answer) r last
+      unfolding with-start with-numbers with-number with-list start-of
+      start-known g f told =
+          let is = good-start _ _ _ x (read .0) (not-false (x .good) g) in
+          rw (is .0, is .1, some-numbers (word-of 3 line) room (sym size) (refl, read .1) (is .2) f) told
+
+      pub start-bad : not (x .good) ≡ true → Wrote s at bad-line r last → Wrote s at (with-start line answer) r last
+      unfolding with-start with-numbers start-of
+      start-bad g told = wrote-as (start-none _ _ _ x answer (rw (← size) at (read .0)) (not-true (x .good) g)) told
+
+-- ---- one of two answers, by a comparison with a word
+
+module _ {word other : List ℕ} {same : Bool} (told : (same ≡ true → word ≡ other) × (word ≡ other → same ≡ true)) where
+  module _ {s : List ℕ} {at r : ℕ} {last : List ℕ} where
+    pub same-wrote : {xs : Texts} (ys : Texts) → same ≡ true → Wrote s at xs r last → Wrote s at (if same-text word other then xs else ys) r last
+    same-wrote ys e wrote = rw (sym (same-told word other same told) ∙ e) wrote
+
+    pub other-wrote : (xs : Texts) {ys : Texts} → same ≡ false → Wrote s at ys r last → Wrote s at (if same-text word other then xs else ys) r last
+    other-wrote xs e wrote = rw (sym (same-told word other same told) ∙ e) wrote

@@ -8,11 +8,15 @@ use Rattle.image.specs.Layout.{pages-in, slots-in, image-refusal, marks-agree}
 use Rattle.run.specs.declared.Run.{Run}
 use Rattle.run.specs.Numbers.{blank-run}
 use Rattle.run.specs.Stored.{image-run}
+use Rattle.hex.specs.declared.Count.{Count}
+use Rattle.hex.specs.declared.Count.the-variants.{Of}
+use Rattle.hex.specs.declared.Count.the-variants as counts
 use Rattle.fields.specs.declared.Value.{Value}
 use Rattle.fields.specs.declared.Value.the-variants.{Is, Refused}
-use Rattle.fields.specs.Fields.{word-of, number-of, bytes-in}
+use Rattle.fields.specs.Fields.{word-of, number-of, list-in, count-of, bytes-in}
 use Rattle.asked.specs.declared.Described.{Described}
 use Rattle.asked.specs.declared.Paged.{Paged}
+use Rattle.asked.specs.declared.StartWords.{StartWords}
 
 -- A number that fits is below 2^32.
 unfoldable pub number-in : List ℕ → Value
@@ -62,3 +66,17 @@ paged none v = no-page
 
 unfoldable pub paged-of : List ℕ → Paged
 paged-of line = paged (run-of (word-of 1 line)) (number-in (word-of 2 line))
+
+-- N, K and how many pages LIST has, of a line that describes a start; where one of the words does not fit, none of it.
+abbrev pub no-start : StartWords
+no-start = record { good = false; pages = 0; slots = 0; listed = 0 }
+
+unfoldable pub start-words : Value → Value → Count → StartWords
+start-words (Is N) (Is k) (Of n) = record { good = true; pages = N; slots = k; listed = n }
+start-words (Is N) (Is k) counts.Refused = no-start
+start-words (Is N) Refused c = no-start
+start-words Refused v c = no-start
+
+-- Of a line whose LIST has at most so many pages.
+unfoldable pub start-of : ℕ → List ℕ → StartWords
+start-of most line = start-words (number-in (word-of 1 line)) (number-in (word-of 2 line)) (count-of (list-in most (word-of 3 line)))

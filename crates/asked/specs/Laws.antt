@@ -2,7 +2,6 @@
 use mathlib.Core.Bool.{Bool, true, false}
 use mathlib.Core.List.{List}
 use mathlib.Core.Option.{Option, none, some}
-use mathlib.Core.Logic.{_⊎_, inl, inr}
 use mathlib.Core.Path.{_≡_, refl, sym, ap, _∙_}
 use Prim.Native.Nat.{ℕ}
 use borrow.Author.Tests.{eq-eqb, ne-eqb}
@@ -11,12 +10,16 @@ use Rattle.image.specs.Layout.{pages-in, slots-in, image-refusal, marks-agree}
 use Rattle.run.specs.declared.Run.{Run}
 use Rattle.run.specs.Numbers.{blank-run}
 use Rattle.run.specs.Stored.{image-run}
+use Rattle.hex.specs.declared.Count.{Count}
+use Rattle.hex.specs.declared.Count.the-variants.{Of}
+use Rattle.hex.specs.declared.Count.the-variants as counts
 use Rattle.fields.specs.declared.Value.{Value}
 use Rattle.fields.specs.declared.Value.the-variants.{Is, Refused}
 use Rattle.fields.specs.Fields.{word-of, bytes-in}
 use Rattle.asked.specs.declared.Described.{Described}
 use Rattle.asked.specs.declared.Paged.{Paged}
-use Rattle.asked.specs.Asked.{longest-record, number-in, run-in, run-of-bytes, run-of, no-run, described, no-page, paged, paged-of}
+use Rattle.asked.specs.declared.StartWords.{StartWords}
+use Rattle.asked.specs.Asked.{longest-record, number-in, run-in, run-of-bytes, run-of, no-run, described, no-page, paged, paged-of, no-start, start-words}
 
 -- ---- the run in an image
 
@@ -50,8 +53,8 @@ module _ (word : List ℕ) where
 -- what a caller knows of a record, good or not
 pub good-run : (o : Option Run) (d : Described) → d ≡ described o → d .good ≡ true → o ≡ some (d .run)
 unfolding described
-good-run none d e g = absurd (clash g (ap (λ (x : Described). x .good) e))
-good-run (some r) d e g = ap some (sym (ap (λ (x : Described). x .run) e))
+good-run none d e g = absurd (clash g (rw e))
+good-run (some r) d e g = rw e
 
 pub bad-run : (o : Option Run) (d : Described) → d ≡ described o → d .good ≡ false → o ≡ none
 unfolding described
@@ -79,12 +82,44 @@ module _ (line : List ℕ) where
 
 pub good-page : (o : Option Run) (v : Value) (x : Paged) → x ≡ paged o v → x .good ≡ true → (o ≡ some (x .run)) × (v ≡ Is (x .page))
 unfolding paged
-good-page (some r) (Is p) x e g = (ap some (sym (ap (λ (y : Paged). y .run) e)), ap Is (sym (ap (λ (y : Paged). y .page) e)))
-good-page (some r) Refused x e g = absurd (clash g (ap (λ (y : Paged). y .good) e))
-good-page none v x e g = absurd (clash g (ap (λ (y : Paged). y .good) e))
+good-page (some r) (Is p) x e g = (rw e, rw e)
+good-page (some r) Refused x e g = absurd (clash g (rw e))
+good-page none v x e g = absurd (clash g (rw e))
 
-pub bad-page : (o : Option Run) (v : Value) (x : Paged) → x ≡ paged o v → x .good ≡ false → (o ≡ none) ⊎ (v ≡ Refused)
-unfolding paged
-bad-page (some r) (Is p) x e g = absurd (clash (ap (λ (y : Paged). y .good) e) g)
-bad-page (some r) Refused x e g = inr refl
-bad-page none v x e g = inl refl
+-- ---- the words of a start
+
+pub no-pages-start : (v u : Value) (c : Count) → v ≡ Refused → no-start ≡ start-words v u c
+unfolding start-words
+no-pages-start v u c e = rw e
+
+pub no-slots-start : (v u : Value) (c : Count) → u ≡ Refused → no-start ≡ start-words v u c
+unfolding start-words
+no-slots-start (Is N) u c e = rw e
+no-slots-start Refused u c e = refl
+
+pub no-list-start : (v u : Value) (c : Count) → c ≡ counts.Refused → no-start ≡ start-words v u c
+unfolding start-words
+no-list-start (Is N) (Is k) c e = rw e
+no-list-start (Is N) Refused c e = refl
+no-list-start Refused u c e = refl
+
+pub all-start :
+    (v u : Value) (c : Count) {N k n : ℕ} →
+    v ≡ Is N →
+    u ≡ Is k →
+    c ≡ Of n →
+    record { good = true; pages = N; slots = k; listed = n } ≡ start-words v u c
+unfolding start-words
+all-start v u c e f g = rw (e, f, g)
+
+-- what a caller knows of them
+pub good-start :
+    (v u : Value) (c : Count) (x : StartWords) →
+    x ≡ start-words v u c →
+    x .good ≡ true →
+    (v ≡ Is (x .pages)) × (u ≡ Is (x .slots)) × (c ≡ Of (x .listed))
+unfolding start-words
+good-start (Is N) (Is k) (Of n) x e g = (rw e, rw e, rw e)
+good-start (Is N) (Is k) counts.Refused x e g = absurd (clash g (rw e))
+good-start (Is N) Refused c x e g = absurd (clash g (rw e))
+good-start Refused u c x e g = absurd (clash g (rw e))

@@ -2,7 +2,8 @@
 ghost use mathlib.Core.Path.{_≡_};
 ghost use lib.ListN.{length, replicate};
 ghost use Rattle.image.specs.Layout.{image-refusal};
-ghost use Rattle.asked.specs.Asked.{number-in, run-in, run-of, no-run, described, no-page, paged-of};
+ghost use Rattle.fields.specs.Fields.{word-of, list-after};
+ghost use Rattle.asked.specs.Asked.{number-in, run-in, run-of, no-run, described, no-page, paged-of, start-of};
 use fields::Value;
 use hex::Count;
 use run::Run;
@@ -18,6 +19,14 @@ pub struct Paged {
     pub good: bool,
     pub run: Run,
     pub page: usize,
+}
+
+// The numbers of pages and slots of a start, and how many pages its list has.
+pub struct StartWords {
+    pub good: bool,
+    pub pages: usize,
+    pub slots: usize,
+    pub listed: usize,
 }
 
 // Room for the bytes in any word of a line. The second promise is what lending the array as a slice needs.
@@ -74,7 +83,7 @@ pub fn read_run(word: &[u8]) -> Described
         return no_run();
     };
     let image = fields::first(&bytes, n);
-    if image::refusal(image) != 0 {
+    if image::refusal(image, Run::MAX_PAGES, Run::MAX_SLOTS) != 0 {
         return no_run();
     }
     Described {
@@ -111,5 +120,36 @@ pub fn read_paged(line: &[u8]) -> Paged
         good: true,
         run,
         page: page as usize,
+    }
+}
+
+// N, K and LIST, the words behind the first of a line that describes a start; the list goes to the start of a buffer.
+pub fn read_start(line: &[u8], list: &mut [u16]) -> StartWords
+    ensures words { λ r. ⌜ r ≡ start-of (length (now (list .entry))) (now (line .entry)) ⌝ }
+    ensures numbers { λ _. ⌜ now (list .exit) ≡ list-after (word-of 3 (now (line .entry))) (now (list .entry)) ⌝ }
+{
+    let first = read_number(fields::word(line, 1));
+    let second = read_number(fields::word(line, 2));
+    let third = fields::list(fields::word(line, 3), list);
+    let none = StartWords {
+        good: false,
+        pages: 0,
+        slots: 0,
+        listed: 0,
+    };
+    let Value::Is(pages) = first else {
+        return none;
+    };
+    let Value::Is(slots) = second else {
+        return none;
+    };
+    let Count::Of(listed) = third else {
+        return none;
+    };
+    StartWords {
+        good: true,
+        pages: pages as usize,
+        slots: slots as usize,
+        listed,
     }
 }

@@ -76,13 +76,7 @@ fn all_different(list: &[u16]) -> bool
 }
 
 // The first refusal of a start that its numbers and its list give: 2 to 6, or 0.
-pub fn list_refusal(
-    pages: usize,
-    slots: usize,
-    list: &[u16],
-    pagelimit: usize,
-    slotlimit: usize,
-) -> u8
+fn list_refusal(pages: usize, slots: usize, list: &[u16], pagelimit: usize, slotlimit: usize) -> u8
     requires { ⌜ (pagelimit ≡ most-pages) × (slotlimit ≡ most-slots) ⌝ }
     ensures { λ r. ⌜ r ≡ list-refusal pages slots (now (list .entry)) ⌝ }
 {

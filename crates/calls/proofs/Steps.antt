@@ -13,18 +13,19 @@ use lib.ListN.{length, getD, set, take, drop, length-set, drop-of-length-le}
 use lib.Seq.{drop-cons}
 use Rattle.paging.specs.Sets.{if_then_else_, bit}
 use Rattle.words.specs.Words.{put}
-use Rattle.words.specs.Laws.{put-none, take-put}
+use Rattle.words.specs.Laws.{put-none}
 use Rattle.serve.specs.declared.Event.{Event}
 use Rattle.serve.specs.declared.Event.the-variants.{Hit, Miss, Refused}
 use Rattle.serve.proofs.Event.{the-type}
 use Rattle.run.specs.declared.Run.{Run}
 use Rattle.run.specs.declared.Served.{Served}
 use Rattle.run.specs.declared.SelectionAnswer.{SelectionAnswer}
-use Rattle.hex.specs.Room.{placed, behind}
-use Rattle.hex.specs.Laws.{Told, none-told, one-told, told-then}
+use Rattle.hex.specs.Room.{Wrote}
+use Rattle.hex.specs.Laws.{none-wrote, wrote-then}
 use Rattle.fields.specs.Fields.{list-texts}
 use Rattle.fields.specs.Laws.{put-more}
-use Rattle.answers.specs.Answers.{Texts, refusal-texts, record-texts, event-texts}
+use Rattle.fields.specs.Reading.{first-put}
+use Rattle.answers.specs.Answers.{refusal-texts, record-texts, event-texts}
 use Rattle.calls.specs.Calls.{next-texts, served-texts, pages-from, pages-of, selection-texts}
 
 -- ---- a request's answer
@@ -40,22 +41,18 @@ served-next (Hit slot) r k = refl
 served-next (Miss slot victim) r k = refl
 served-next (Refused n) r k = absurd (⊎-elim (λ z. omega arith) (λ z. omega arith) k)
 
-module _ (x : Served) (s : List ℕ) (at mid : ℕ) (t : List ℕ) (first : Told s at (event-texts (x .event) (x .best)) mid t) where
-  abbrev first-texts : Texts
-  first-texts = event-texts (x .event) (x .best)
-
-  pub refused-served : (n : ℕ) → x .event ≡ Refused n → Told s at (served-texts x) mid t
+module _ (x : Served) {s : List ℕ} {at mid : ℕ} {t : List ℕ} (first : Wrote s at (event-texts (x .event) (x .best)) mid t) where
+  pub refused-served : {n : ℕ} → x .event ≡ Refused n → Wrote s at (served-texts x) mid t
   unfolding served-texts
-  refused-served n e = told-then s at first-texts (next-texts (x .event) (x .run)) mid t mid t first (rw (refused-next (x .event) n (x .run) e) (none-told t mid))
+  refused-served {n} e = wrote-then first (rw (refused-next (x .event) n (x .run) e) none-wrote)
 
   pub accepted-served :
-      (r : ℕ) (last : List ℕ) →
+      {r : ℕ} {last : List ℕ} →
       OneOf (0 ∷ 1 ∷ []) (tagOf the-type (x .event)) →
-      Told t mid (record-texts (x .run)) r last →
-      Told s at (served-texts x) r last
+      Wrote t mid (record-texts (x .run)) r last →
+      Wrote s at (served-texts x) r last
   unfolding served-texts
-  accepted-served r last k more =
-      told-then s at first-texts (next-texts (x .event) (x .run)) mid t r last first (rw (served-next (x .event) (x .run) k) more)
+  accepted-served k more = wrote-then first (rw (served-next (x .event) (x .run) k) more)
 
 -- ---- the loop over the marks of a set
 
@@ -127,34 +124,23 @@ pages-few q [] = omega arith
 pages-few q (true ∷ marks) = omega (arith, pages-few (suc q) marks)
 pages-few q (false ∷ marks) = omega (arith, pages-few (suc q) marks)
 
--- the first of a buffer are the pages that were gathered in it
-pages-first :
-    (marks : List Bool) (entry list : List ℕ) (n : ℕ) (first : List ℕ) →
-    length marks ≤ length entry →
-    (n ≡ length (pages-of marks)) × (list ≡ put entry 0 (pages-of marks)) →
-    first ≡ take n list →
-    first ≡ pages-of marks
-unfolding pages-of
-pages-first marks entry list n first l p e =
-    let size : 0 + length (pages-from 0 marks) ≡ length (pages-from 0 marks) = omega arith in
-    e ∙ rw (p .0, p .1) (rw size at (take-put entry 0 (pages-from 0 marks) (omega (arith, l, pages-few 0 marks))))
-
-module _ (a : SelectionAnswer) (s : List ℕ) (at r : ℕ) (last : List ℕ) where
-  pub selection-refused : (a .refusal ≡ 0 → ⊥) → Told s at (refusal-texts (a .refusal)) r last → Told s at (selection-texts a) r last
+module _ (a : SelectionAnswer) {s : List ℕ} {at r : ℕ} {last : List ℕ} where
+  pub selection-refused : (a .refusal ≡ 0 → ⊥) → Wrote s at (refusal-texts (a .refusal)) r last → Wrote s at (selection-texts a) r last
   unfolding selection-texts
   selection-refused ne told = rw (ne-eqb (a .refusal) 0 ne) told
 
-  pub selection-told :
-      (mid : ℕ) (t entry list : List ℕ) (n : ℕ) (first : List ℕ) →
+  -- the first of a buffer are the pages that were gathered in it
+  pub selection-wrote :
+      (entry : List ℕ) {mid n : ℕ} {t list first : List ℕ} →
       a .refusal ≡ 0 →
       length (a .pages) ≤ length entry →
       (n ≡ length (pages-of (a .pages))) × (list ≡ put entry 0 (pages-of (a .pages))) →
       first ≡ take n list →
-      (mid ≡ behind 2 s at (48 ∷ 32 ∷ [])) × (t ≡ placed 2 s at (48 ∷ 32 ∷ [])) →
-      Told t mid (list-texts first) r last →
-      Told s at (selection-texts a) r last
-  unfolding selection-texts
-  selection-told mid t entry list n first z l p e word told =
-      let is = pages-first (a .pages) entry list n first l p e in
-      rw (eq-eqb (a .refusal) 0 z)
-      (told-then s at ((48 ∷ 32 ∷ []) ∷ []) (list-texts (pages-of (a .pages))) mid t r last (one-told s at (48 ∷ 32 ∷ []) mid t word) (rw is at told))
+      Wrote s at ((48 ∷ 32 ∷ []) ∷ []) mid t →
+      Wrote t mid (list-texts first) r last →
+      Wrote s at (selection-texts a) r last
+  unfolding selection-texts pages-of
+  selection-wrote entry {n = n} z l p e word told =
+      let few = pages-few 0 (a .pages) in
+      let is = first-put entry (pages-from 0 (a .pages)) {n = n} (omega (arith, few)) (omega (arith, p .0), p .1) e in
+      rw (eq-eqb (a .refusal) 0 z) (wrote-then word (rw is at told))

@@ -16,9 +16,9 @@ use Rattle.run.specs.Start.{started, started-default}
 use Rattle.run.specs.Request.{requested, tried}
 use Rattle.run.specs.Questions as questions
 use Rattle.text.specs.Text.{decimal}
-use Rattle.fields.specs.Fields.{word-of, list-in, list-texts, same-text}
-use Rattle.asked.specs.Asked.{most-in-word, word-default, number-in, run-of}
-use Rattle.answers.specs.Answers.{Texts, refusal-texts, number-texts, record-texts, event-texts, unless-refused, with-number, with-list, with-run, with-page}
+use Rattle.fields.specs.Fields.{word-of, list-texts, same-text}
+use Rattle.asked.specs.Asked.{word-default, run-of}
+use Rattle.answers.specs.Answers.{Texts, refusal-texts, number-texts, record-texts, event-texts, unless-refused, with-numbers, with-run, with-page, with-start}
 
 -- ---- start N K LIST PRIORITIES, answered `0 RECORD`
 
@@ -26,7 +26,7 @@ unfoldable pub started-texts : Started → Texts
 started-texts s = unless-refused (s .refusal) (record-texts (s .run))
 
 unfoldable pub given-texts : ℕ → ℕ → List ℕ → List ℕ → Texts
-given-texts N k list word = with-list (list-in most-in-word word) (λ priorities. started-texts (started N k list priorities))
+given-texts N k list word = with-numbers word (λ priorities. started-texts (started N k list priorities))
 
 unfoldable pub prioritised-texts : ℕ → ℕ → List ℕ → List ℕ → Texts
 prioritised-texts N k list word =
@@ -35,11 +35,7 @@ prioritised-texts N k list word =
     else given-texts N k list word
 
 unfoldable pub start-answer : List ℕ → Texts
-start-answer line =
-    with-number (number-in (word-of 1 line)) (λ N.
-    with-number (number-in (word-of 2 line)) (λ k.
-    with-list (list-in most-in-word (word-of 3 line)) (λ list.
-    prioritised-texts N k list (word-of 4 line))))
+start-answer line = with-start line (λ N k list. prioritised-texts N k list (word-of 4 line))
 
 -- ---- request RECORD PAGE and trial RECORD PAGE: the event, and of a request the next run
 
@@ -51,15 +47,11 @@ next-texts (Refused n) r = []
 unfoldable pub served-texts : Served → Texts
 served-texts s = event-texts (s .event) (s .best) ++ next-texts (s .event) (s .run)
 
--- The answer to a line whose second word is a RECORD and whose third is a PAGE.
-unfoldable pub of-page : List ℕ → (Run → ℕ → Texts) → Texts
-of-page line = with-page (run-of (word-of 1 line)) (number-in (word-of 2 line))
-
 unfoldable pub request-answer : List ℕ → Texts
-request-answer line = of-page line (λ r p. served-texts (requested r p))
+request-answer line = with-page line (λ r p. served-texts (requested r p))
 
 unfoldable pub trial-answer : List ℕ → Texts
-trial-answer line = of-page line (λ r p. event-texts (tried r p .event) (tried r p .best))
+trial-answer line = with-page line (λ r p. event-texts (tried r p .event) (tried r p .best))
 
 -- ---- layer RECORD PAGE, certain RECORD PAGE: `0 LAYER`, `0 1` or `0 0`
 
@@ -67,13 +59,13 @@ unfoldable pub layer-texts : LayerAnswer → Texts
 layer-texts a = unless-refused (a .refusal) (number-texts (a .layer))
 
 unfoldable pub layer-answer : List ℕ → Texts
-layer-answer line = of-page line (λ r p. layer-texts (questions.layer-answer r p))
+layer-answer line = with-page line (λ r p. layer-texts (questions.layer-answer r p))
 
 unfoldable pub certain-texts : CertainAnswer → Texts
 certain-texts a = unless-refused (a .refusal) (number-texts (bit (a .certain)))
 
 unfoldable pub certain-answer : List ℕ → Texts
-certain-answer line = of-page line (λ r p. certain-texts (questions.certain-answer r p))
+certain-answer line = with-page line (λ r p. certain-texts (questions.certain-answer r p))
 
 -- ---- selection RECORD: `0 LIST`, the pages in rising order
 

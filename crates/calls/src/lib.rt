@@ -5,11 +5,10 @@ ghost use Prim.Native.Nat.{_+_, _<_};
 ghost use lib.ListN.{length, set};
 ghost use Rattle.paging.specs.Sets.{if_then_else_, bit};
 ghost use Rattle.words.specs.Words.{put};
-ghost use Rattle.hex.specs.Room.{placed-all, behind-all};
+ghost use Rattle.hex.specs.Room.{Wrote};
 ghost use Rattle.answers.specs.Answers.{number-texts, unless-refused};
 ghost use Rattle.calls.specs.Calls.{pages-of, started-texts, given-texts, prioritised-texts, served-texts};
 ghost use Rattle.calls.specs.Calls.{start-answer, request-answer, trial-answer, layer-answer, certain-answer, selection-answer, sound-answer};
-use fields::Value;
 use hex::Count;
 use run::Run;
 use run::Served;
@@ -18,8 +17,7 @@ use serve::Event;
 
 // The answer of a start.
 fn started(start: Started, out: &mut [u8], at: usize) -> usize
-    ensures offset { λ r. ⌜ r ≡ behind-all (now (out .entry)) at (started-texts start) ⌝ }
-    ensures text { λ _. ⌜ now (out .exit) ≡ placed-all (now (out .entry)) at (started-texts start) ⌝ }
+    ensures { λ r. ⌜ Wrote (now (out .entry)) at (started-texts start) r (now (out .exit)) ⌝ }
 {
     let next = answers::refusal(out, at, start.refusal);
     if start.refusal != 0 {
@@ -37,8 +35,7 @@ fn start_given<'a>(
     out: &mut [u8],
     at: usize,
 ) -> usize
-    ensures offset { λ r. ⌜ r ≡ behind-all (now (out .entry)) at (given-texts pages slots (now (list .entry)) (now (word .entry))) ⌝ }
-    ensures text { λ _. ⌜ now (out .exit) ≡ placed-all (now (out .entry)) at (given-texts pages slots (now (list .entry)) (now (word .entry))) ⌝ }
+    ensures { λ r. ⌜ Wrote (now (out .entry)) at (given-texts pages slots (now (list .entry)) (now (word .entry))) r (now (out .exit)) ⌝ }
 {
     let mut priorities = asked::number_room();
     let count = fields::list(word, &mut priorities);
@@ -66,8 +63,7 @@ fn start_by<'a>(
     out: &mut [u8],
     at: usize,
 ) -> usize
-    ensures offset { λ r. ⌜ r ≡ behind-all (now (out .entry)) at (prioritised-texts pages slots (now (list .entry)) (now (word .entry))) ⌝ }
-    ensures text { λ _. ⌜ now (out .exit) ≡ placed-all (now (out .entry)) at (prioritised-texts pages slots (now (list .entry)) (now (word .entry))) ⌝ }
+    ensures { λ r. ⌜ Wrote (now (out .entry)) at (prioritised-texts pages slots (now (list .entry)) (now (word .entry))) r (now (out .exit)) ⌝ }
 {
     if check::same(word, b"default") {
         return started(Run::start_default(pages, slots, list), out, at);
@@ -77,26 +73,17 @@ fn start_by<'a>(
 
 // start N K LIST PRIORITIES
 pub fn start(line: &[u8], out: &mut [u8], at: usize) -> usize
-    ensures offset { λ r. ⌜ r ≡ behind-all (now (out .entry)) at (start-answer (now (line .entry))) ⌝ }
-    ensures text { λ _. ⌜ now (out .exit) ≡ placed-all (now (out .entry)) at (start-answer (now (line .entry))) ⌝ }
+    ensures { λ r. ⌜ Wrote (now (out .entry)) at (start-answer (now (line .entry))) r (now (out .exit)) ⌝ }
 {
-    let first = asked::read_number(fields::word(line, 1));
-    let Value::Is(pages) = first else {
-        return answers::bad(out, at);
-    };
-    let second = asked::read_number(fields::word(line, 2));
-    let Value::Is(slots) = second else {
-        return answers::bad(out, at);
-    };
     let mut list = asked::number_room();
-    let third = fields::list(fields::word(line, 3), &mut list);
-    let Count::Of(listed) = third else {
+    let words = asked::read_start(line, &mut list);
+    if !words.good {
         return answers::bad(out, at);
-    };
+    }
     start_by(
-        pages as usize,
-        slots as usize,
-        fields::first_numbers(&list, listed),
+        words.pages,
+        words.slots,
+        fields::first_numbers(&list, words.listed),
         fields::word(line, 4),
         out,
         at,
@@ -105,8 +92,7 @@ pub fn start(line: &[u8], out: &mut [u8], at: usize) -> usize
 
 // The answer of a request: the event, and unless it is a refusal the next run's record.
 fn answered(served: Served, out: &mut [u8], at: usize) -> usize
-    ensures offset { λ r. ⌜ r ≡ behind-all (now (out .entry)) at (served-texts served) ⌝ }
-    ensures text { λ _. ⌜ now (out .exit) ≡ placed-all (now (out .entry)) at (served-texts served) ⌝ }
+    ensures { λ r. ⌜ Wrote (now (out .entry)) at (served-texts served) r (now (out .exit)) ⌝ }
 {
     let event = served.event;
     let next = answers::event(out, at, event, served.best);
@@ -118,8 +104,7 @@ fn answered(served: Served, out: &mut [u8], at: usize) -> usize
 
 // request RECORD PAGE
 pub fn request(line: &[u8], out: &mut [u8], at: usize) -> usize
-    ensures offset { λ r. ⌜ r ≡ behind-all (now (out .entry)) at (request-answer (now (line .entry))) ⌝ }
-    ensures text { λ _. ⌜ now (out .exit) ≡ placed-all (now (out .entry)) at (request-answer (now (line .entry))) ⌝ }
+    ensures { λ r. ⌜ Wrote (now (out .entry)) at (request-answer (now (line .entry))) r (now (out .exit)) ⌝ }
 {
     let paged = asked::read_paged(line);
     if !paged.good {
@@ -130,8 +115,7 @@ pub fn request(line: &[u8], out: &mut [u8], at: usize) -> usize
 
 // trial RECORD PAGE
 pub fn trial(line: &[u8], out: &mut [u8], at: usize) -> usize
-    ensures offset { λ r. ⌜ r ≡ behind-all (now (out .entry)) at (trial-answer (now (line .entry))) ⌝ }
-    ensures text { λ _. ⌜ now (out .exit) ≡ placed-all (now (out .entry)) at (trial-answer (now (line .entry))) ⌝ }
+    ensures { λ r. ⌜ Wrote (now (out .entry)) at (trial-answer (now (line .entry))) r (now (out .exit)) ⌝ }
 {
     let paged = asked::read_paged(line);
     if !paged.good {
@@ -144,8 +128,7 @@ pub fn trial(line: &[u8], out: &mut [u8], at: usize) -> usize
 
 // A refusal, and where it is 0 a number behind it.
 fn number_unless(refusal: u8, n: u64, out: &mut [u8], at: usize) -> usize
-    ensures offset { λ r. ⌜ r ≡ behind-all (now (out .entry)) at (unless-refused refusal (number-texts n)) ⌝ }
-    ensures text { λ _. ⌜ now (out .exit) ≡ placed-all (now (out .entry)) at (unless-refused refusal (number-texts n)) ⌝ }
+    ensures { λ r. ⌜ Wrote (now (out .entry)) at (unless-refused refusal (number-texts n)) r (now (out .exit)) ⌝ }
 {
     let next = answers::refusal(out, at, refusal);
     if refusal != 0 {
@@ -156,8 +139,7 @@ fn number_unless(refusal: u8, n: u64, out: &mut [u8], at: usize) -> usize
 
 // layer RECORD PAGE
 pub fn layer(line: &[u8], out: &mut [u8], at: usize) -> usize
-    ensures offset { λ r. ⌜ r ≡ behind-all (now (out .entry)) at (layer-answer (now (line .entry))) ⌝ }
-    ensures text { λ _. ⌜ now (out .exit) ≡ placed-all (now (out .entry)) at (layer-answer (now (line .entry))) ⌝ }
+    ensures { λ r. ⌜ Wrote (now (out .entry)) at (layer-answer (now (line .entry))) r (now (out .exit)) ⌝ }
 {
     let paged = asked::read_paged(line);
     if !paged.good {
@@ -169,8 +151,7 @@ pub fn layer(line: &[u8], out: &mut [u8], at: usize) -> usize
 
 // certain RECORD PAGE
 pub fn certain(line: &[u8], out: &mut [u8], at: usize) -> usize
-    ensures offset { λ r. ⌜ r ≡ behind-all (now (out .entry)) at (certain-answer (now (line .entry))) ⌝ }
-    ensures text { λ _. ⌜ now (out .exit) ≡ placed-all (now (out .entry)) at (certain-answer (now (line .entry))) ⌝ }
+    ensures { λ r. ⌜ Wrote (now (out .entry)) at (certain-answer (now (line .entry))) r (now (out .exit)) ⌝ }
 {
     let paged = asked::read_paged(line);
     if !paged.good {
@@ -210,8 +191,7 @@ fn gather(pages: &[bool], list: &mut [u16]) -> usize
 
 // selection RECORD
 pub fn selection(line: &[u8], out: &mut [u8], at: usize) -> usize
-    ensures offset { λ r. ⌜ r ≡ behind-all (now (out .entry)) at (selection-answer (now (line .entry))) ⌝ }
-    ensures text { λ _. ⌜ now (out .exit) ≡ placed-all (now (out .entry)) at (selection-answer (now (line .entry))) ⌝ }
+    ensures { λ r. ⌜ Wrote (now (out .entry)) at (selection-answer (now (line .entry))) r (now (out .exit)) ⌝ }
 {
     let described = asked::read_run(fields::word(line, 1));
     if !described.good {
@@ -230,8 +210,7 @@ pub fn selection(line: &[u8], out: &mut [u8], at: usize) -> usize
 
 // sound RECORD
 pub fn sound(line: &[u8], out: &mut [u8], at: usize) -> usize
-    ensures offset { λ r. ⌜ r ≡ behind-all (now (out .entry)) at (sound-answer (now (line .entry))) ⌝ }
-    ensures text { λ _. ⌜ now (out .exit) ≡ placed-all (now (out .entry)) at (sound-answer (now (line .entry))) ⌝ }
+    ensures { λ r. ⌜ Wrote (now (out .entry)) at (sound-answer (now (line .entry))) r (now (out .exit)) ⌝ }
 {
     let described = asked::read_run(fields::word(line, 1));
     if !described.good {

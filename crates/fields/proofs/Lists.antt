@@ -1,9 +1,10 @@
 -- What a turn of the loops that read and write a list leaves, in the contracts' words. Assumes nothing.
-use mathlib.Core.Bool.{Bool, true, false, _&&_}
+use mathlib.Core.Bool.{Bool, true, false}
 use mathlib.Core.List.{List, [], _∷_}
 use mathlib.Core.Logic.{⊎-elim}
 use mathlib.Core.Path.{_≡_, refl, sym, ap, _∙_}
 use Prim.Native.Nat.{ℕ, suc, _+_, _-_, _≤_, _<_}
+use native.Mathlib.Numerals.{add-one}
 use native.Mathlib.Omega.{arith}
 use borrow.Author.Tests.{le-leb, lt-leb, eq-eqb, ne-eqb}
 use lib.ListN.{length, getD, set, take, drop, length-set, length-drop, drop-of-length-le}
@@ -15,12 +16,13 @@ use Rattle.words.specs.Laws.{put-none}
 use Rattle.text.specs.Text.{decimal}
 use Rattle.hex.specs.declared.Count.{Count}
 use Rattle.hex.specs.declared.Count.the-variants.{Of, Refused}
-use Rattle.hex.specs.Room.{placed, behind, placed-all, behind-all}
-use Rattle.hex.specs.Laws.{Told, one-told, told-then}
+use Rattle.hex.specs.Room.{Wrote}
+use Rattle.hex.specs.Laws.{none-wrote, wrote-then, wrote-as}
 use Rattle.fields.specs.declared.Value.{Value}
 use Rattle.fields.specs.declared.Value.the-variants as value
 use Rattle.fields.specs.Fields.{before, number-of, none-word, in-front, parts, number-then, numbers-of, list-in, count-of, list-after, more-texts, list-texts}
 use Rattle.fields.specs.Laws.{put-more}
+use Rattle.fields.proofs.Steps.{and-fails}
 
 -- ---- the parts of a word, one by one
 
@@ -92,10 +94,6 @@ Done word s r last = (r ≡ count-of (list-in (length s) word)) × (last ≡ lis
 pub no-numbers : (word s : List ℕ) → none-word word ≡ true → Done word s (Of 0) s
 unfolding list-in count-of list-after
 no-numbers word s e = (rw e, rw e)
-
-and-fails : (a b : Bool) → b ≡ false → (a && b) ≡ false
-and-fails true b e = e
-and-fails false b e = refl
 
 module _ (word s : List ℕ) (some-is : none-word word ≡ false) where
   abbrev words : List (List ℕ)
@@ -203,9 +201,9 @@ module _ (word entry out : List ℕ) (n from : ℕ) (now-is : Reading word entry
 -- ---- the loop that writes a list
 
 module _ (list : List ℕ) where
-  more-next : (i : ℕ) → i < length list → more-texts (drop i list) ≡ (44 ∷ []) ∷ decimal (getD list i 0) ∷ more-texts (drop (suc i) list)
+  more-next : (i : ℕ) → i < length list → more-texts (drop i list) ≡ (44 ∷ []) ∷ decimal (getD list i 0) ∷ more-texts (drop (i + 1) list)
   unfolding more-texts
-  more-next i l = rw (drop-cons list i 0 l)
+  more-next i l = rw (add-one i, drop-cons list i 0 l)
 
   more-last : (i : ℕ) → length list ≤ i → more-texts (drop i list) ≡ []
   unfolding more-texts
@@ -214,65 +212,36 @@ module _ (list : List ℕ) where
   -- Before number i: what is left, written behind what is there, makes the whole.
   pub record Listing (before : List ℕ) (at : ℕ) (out : List ℕ) (next i : ℕ) : Type 0 where
     pub size : length out ≡ length before
-    pub ends : behind-all out next (more-texts (drop i list)) ≡ behind-all before at (more-texts (drop 1 list))
-    pub text : placed-all out next (more-texts (drop i list)) ≡ placed-all before at (more-texts (drop 1 list))
+    pub whole : (r : ℕ) (last : List ℕ) → Wrote out next (more-texts (drop i list)) r last → Wrote before at (more-texts (drop 1 list)) r last
 
   module _ (before : List ℕ) (at : ℕ) where
     pub listing-first : Listing before at before at 1
-    listing-first = record { size = refl; ends = refl; text = refl }
+    listing-first = record { size = refl; whole = λ r last p. p }
 
     module _ (out : List ℕ) (next i : ℕ) (now-is : Listing before at out next i) where
       pub listing-next :
-          (mid : List ℕ) (then : ℕ) (after : List ℕ) (end : ℕ) →
+          {mid : List ℕ} {then : ℕ} {after : List ℕ} {end : ℕ} →
           i < length list →
           length after ≡ length before →
-          (then ≡ behind 1 out next (44 ∷ [])) × (mid ≡ placed 1 out next (44 ∷ [])) →
-          (end ≡ behind (length (decimal (getD list i 0))) mid then (decimal (getD list i 0)))
-          × (after ≡ placed (length (decimal (getD list i 0))) mid then (decimal (getD list i 0))) →
+          Wrote out next ((44 ∷ []) ∷ []) then mid →
+          Wrote mid then (decimal (getD list i 0) ∷ []) end after →
           Listing before at after end (i + 1)
-      unfolding behind-all placed-all
-      listing-next mid then after end l size p q =
-          let one : i + 1 ≡ suc i = omega arith in
-          let ends = rw (more-next i l) at (now-is .ends) in
-          let text = rw (more-next i l) at (now-is .text) in
-          rw one (record {
+      listing-next l size comma number =
+          record {
             size = size;
-            ends = rw (q .0, q .1, p .0, p .1) ends;
-            text = rw (q .0, q .1, p .0, p .1) text;
-          })
+            whole = λ r last rest. now-is .whole r last (wrote-as (more-next i l) (wrote-then (wrote-then comma number) rest));
+          }
 
-      pub listing-last :
-          length list ≤ i → (next ≡ behind-all before at (more-texts (drop 1 list))) × (out ≡ placed-all before at (more-texts (drop 1 list)))
-      unfolding behind-all placed-all
-      listing-last l = (rw (more-last i l) at (now-is .ends), rw (more-last i l) at (now-is .text))
+      pub listing-last : length list ≤ i → Wrote before at (more-texts (drop 1 list)) next out
+      listing-last l = now-is .whole next out (wrote-as (more-last i l) none-wrote)
 
 -- the first number, and those behind it
-list-some : (list : List ℕ) → 0 < length list → list-texts list ≡ decimal (getD list 0 0) ∷ more-texts (drop 1 list)
+pub list-some : (list : List ℕ) → 0 < length list → list-texts list ≡ decimal (getD list 0 0) ∷ more-texts (drop 1 list)
 unfolding list-texts
 list-some [] l = absurd (omega arith)
 list-some (n ∷ ns) l = refl
 
-list-none : (list : List ℕ) → length list ≡ 0 → list-texts list ≡ (45 ∷ []) ∷ []
+pub list-none : (list : List ℕ) → length list ≡ 0 → list-texts list ≡ (45 ∷ []) ∷ []
 unfolding list-texts
 list-none [] e = refl
 list-none (n ∷ ns) e = absurd (omega arith)
-
-module _ (list s : List ℕ) (at : ℕ) where
-  pub no-list-told :
-      (r : ℕ) (last : List ℕ) →
-      length list ≡ 0 →
-      (r ≡ behind 1 s at (45 ∷ [])) × (last ≡ placed 1 s at (45 ∷ [])) →
-      Told s at (list-texts list) r last
-  unfolding behind-all placed-all
-  no-list-told r last e p = rw (list-none list e) p
-
-  pub list-told :
-      (mid : ℕ) (t : List ℕ) (r : ℕ) (last : List ℕ) →
-      0 < length list →
-      (mid ≡ behind (length (decimal (getD list 0 0))) s at (decimal (getD list 0 0)))
-      × (t ≡ placed (length (decimal (getD list 0 0))) s at (decimal (getD list 0 0))) →
-      Told t mid (more-texts (drop 1 list)) r last →
-      Told s at (list-texts list) r last
-  list-told mid t r last l p q =
-      rw (list-some list l)
-      (told-then s at (decimal (getD list 0 0) ∷ []) (more-texts (drop 1 list)) mid t r last (one-told s at (decimal (getD list 0 0)) mid t p) q)

@@ -10,16 +10,14 @@ use lib.ListN.{length, getD, set, take, drop, drop-of-length-le}
 use lib.Seq.{drop-cons, drop-drop, length-take-le, take-all, take-suc}
 use Rattle.paging.specs.Sets.{_≤?_, _=?_}
 use Rattle.words.specs.Words.{put}
-use Rattle.words.specs.Laws.{put-then, take-put}
+use Rattle.words.specs.Laws.{put-then}
 use Rattle.text.specs.Laws.{value-of}
 use Rattle.hex.specs.declared.Count.{Count}
 use Rattle.hex.specs.declared.Count.the-variants.{Of}
 use Rattle.hex.specs.declared.Count.the-variants as counts
 use Rattle.hex.specs.Hex.{digits, count-read, bytes-read}
-use Rattle.hex.specs.Room.{placed, behind}
-use Rattle.hex.specs.Laws.{digits-length}
+use Rattle.hex.specs.Laws.{set-put}
 use Rattle.fields.specs.declared.Value.the-variants.{Is, Refused}
-use Rattle.fields.specs.Laws.{set-put}
 use Rattle.fields.specs.Fields.{before, word-of, separators, all-decimal, number-from, number-of, none-word, bytes-count, bytes-after, bytes-word}
 
 -- ---- the loops that look for a separator, and count them
@@ -89,23 +87,6 @@ module _ (line : List ℕ) (from end : ℕ) (e : end ≡ from + before 32 (drop 
 pub first-all : (l : List ℕ) (n : ℕ) → length l < n → l ≡ take n l
 first-all l n h = sym (take-all n l (omega arith))
 
-pub first-some : (l : List ℕ) (n : ℕ) → take (n - 0) (drop 0 l) ≡ take n l
-first-some l n =
-    let size : n - 0 ≡ n = omega arith in
-    rw size
-
--- what was put at the start of a buffer is its first part
-pub first-put :
-    (s d t : List ℕ) (n : ℕ) (w : List ℕ) → length d ≤ length s → n ≡ 0 + length d → t ≡ put s 0 d → w ≡ take n t → w ≡ d
-first-put s d t n w l e p q = q ∙ rw (e, p) (take-put s 0 d (omega arith))
-
-pub text-told :
-    (s : List ℕ) (at : ℕ) (w d : List ℕ) (r : ℕ) (last : List ℕ) →
-    w ≡ d →
-    (r ≡ behind (length w) s at w) × (last ≡ placed (length w) s at w) →
-    (r ≡ behind (length d) s at d) × (last ≡ placed (length d) s at d)
-text-told s at w d r last e p = rw e at p
-
 -- ---- the loop that reads a number
 
 value-grows : (n : ℕ) (cs : List ℕ) → n ≤ value-of n cs
@@ -139,7 +120,7 @@ module _ (most n : ℕ) (w : List ℕ) (i : ℕ) where
   unfolding number-from all-decimal value-of
   number-end l h = rw (drop-of-length-le w {i = i} l, le-leb _ _ h)
 
-and-fails : (a b : Bool) → b ≡ false → (a && b) ≡ false
+pub and-fails : (a b : Bool) → b ≡ false → (a && b) ≡ false
 and-fails true b e = e
 and-fails false b e = refl
 
@@ -197,25 +178,12 @@ module _ (w s : List ℕ) where
   unfolding bytes-count bytes-after
   bytes-some r last e n p = (rw (e, ne-eqb (length w) 0 n) (p .0), rw (e, ne-eqb (length w) 0 n) (p .1))
 
-word-empty : (bs : List ℕ) → length bs ≡ 0 → bytes-word bs ≡ 45 ∷ []
+pub word-empty : (bs : List ℕ) → length bs ≡ 0 → bytes-word bs ∷ [] ≡ (45 ∷ []) ∷ []
 unfolding bytes-word
 word-empty [] e = refl
 word-empty (b ∷ bs) e = absurd (omega arith)
 
-word-some : (bs : List ℕ) → (length bs ≡ 0 → ⊥) → bytes-word bs ≡ digits bs
+pub word-some : (bs : List ℕ) → (length bs ≡ 0 → ⊥) → bytes-word bs ∷ [] ≡ digits bs ∷ []
 unfolding bytes-word
 word-some [] n = absurd (n refl)
 word-some (b ∷ bs) n = refl
-
-module _ (bs s : List ℕ) (at r : ℕ) (last : List ℕ) where
-  pub none-told :
-      length bs ≡ 0 →
-      (r ≡ behind 1 s at (45 ∷ [])) × (last ≡ placed 1 s at (45 ∷ [])) →
-      (r ≡ behind (length (bytes-word bs)) s at (bytes-word bs)) × (last ≡ placed (length (bytes-word bs)) s at (bytes-word bs))
-  none-told e p = rw (word-empty bs e) p
-
-  pub some-told :
-      (length bs ≡ 0 → ⊥) →
-      (r ≡ behind (2 * length bs) s at (digits bs)) × (last ≡ placed (2 * length bs) s at (digits bs)) →
-      (r ≡ behind (length (bytes-word bs)) s at (bytes-word bs)) × (last ≡ placed (length (bytes-word bs)) s at (bytes-word bs))
-  some-told n p = rw (word-some bs n, digits-length bs) p

@@ -3,17 +3,16 @@ use mathlib.Core.Bool.{Bool, true, false, _&&_}
 use mathlib.Core.List.{List, [], _∷_, _++_}
 use mathlib.Core.Path.{_≡_, refl, sym, _∙_}
 use Prim.Native.Nat.{ℕ, zero, suc, _+_, _/_, _%_, _≤_, _<_}
-use native.Mathlib.Numerals.{add-one}
 use native.Mathlib.Omega.{arith}
 use borrow.Author.Tests.{leb-true, le-leb}
 use lib.ListN.{length, set}
-use lib.Seq.{set-split}
 use Rattle.paging.specs.Sets.{_≤?_}
 use Rattle.paging.specs.Tests.{and-right}
 use Rattle.words.specs.Words.{put}
 use Rattle.words.specs.Laws.{put-put}
 use Rattle.text.specs.Text.{digits-to, decimal}
 use Rattle.text.specs.Laws.{value-of, value-decimal, decimal-some}
+use Rattle.hex.specs.Laws.{set-put}
 use Rattle.fields.specs.declared.Value.{Value}
 use Rattle.fields.specs.declared.Value.the-variants.{Is, Refused}
 use Rattle.fields.specs.Fields.{all-decimal, number-from, number-of}
@@ -60,13 +59,8 @@ pub number-back : (most n : ℕ) → n ≤ most → most ≤ 4294967295 → numb
 number-back most n l h =
     number-first most (decimal n) (λ e. omega (arith, decimal-some n)) ∙ from-decimal most n l (omega arith)
 
--- ---- a number put at its place of a buffer
+-- ---- a number put at its place of a buffer, and the others behind it
 
-pub set-put : (s : List ℕ) (i d : ℕ) → i < length s → set s i d ≡ put s i (d ∷ [])
-unfolding put
-set-put s i d l = rw (add-one i) (set-split s i d l)
-
--- and the others behind it
 pub put-more : (s : List ℕ) (at x : ℕ) (ys : List ℕ) → at < length s → put s at (x ∷ ys) ≡ put (set s at x) (at + 1) ys
 put-more s at x ys l = sym (put-put s at (x ∷ []) ys (omega arith)) ∙ rw (set-put s at x l)
 

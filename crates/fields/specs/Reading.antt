@@ -4,12 +4,12 @@ use mathlib.Core.Bool.{Bool, true, false, _&&_}
 use mathlib.Core.List.{List, [], _∷_}
 use mathlib.Core.Option.{Option, none, some}
 use mathlib.Core.Path.{_≡_, refl, sym, ap, _∙_}
-use Prim.Native.Nat.{ℕ, _+_, _*_, _/_, _%_, _≤_}
+use Prim.Native.Nat.{ℕ, _+_, _-_, _*_, _/_, _%_, _≤_}
 use native.Mathlib.Omega.{arith}
 use borrow.Author.Tests.{eqb-true, eq-eqb, leb-true}
-use lib.ListN.{length, take}
+use lib.ListN.{length, take, drop}
 use lib.Seq.{take-all}
-use Rattle.paging.specs.Sets.{_=?_, _≤?_, if_then_else_}
+use Rattle.paging.specs.Sets.{_=?_, _≤?_}
 use Rattle.paging.specs.Tests.{clash, and-left, and-right}
 use Rattle.words.specs.Words.{put}
 use Rattle.words.specs.Laws.{take-put}
@@ -25,8 +25,13 @@ Read o s last (Of n) = (o ≡ some (take n last)) × (n ≤ length s)
 Read o s last Refused = o ≡ none
 
 -- what is put at the start of a buffer are its first entries
-first-put : (s d : List ℕ) → length d ≤ length s → take (length d) (put s 0 d) ≡ d
-first-put s d l = let size : 0 + length d ≡ length d = omega arith in rw size at (take-put s 0 d (omega arith))
+pub first-put :
+    (s d : List ℕ) {t w : List ℕ} {n : ℕ} → length d ≤ length s → (n ≡ 0 + length d) × (t ≡ put s 0 d) → w ≡ take n t → w ≡ d
+first-put s d l p e = e ∙ rw (p .0, p .1) (take-put s 0 d (omega arith))
+
+-- the first entries of a buffer, as a part that is lent
+pub part-is : (l : List ℕ) (n : ℕ) → take (n - 0) (drop 0 l) ≡ take n l
+part-is l n = let size : n - 0 ≡ n = omega arith in rw size
 
 -- ---- bytes
 
@@ -39,7 +44,7 @@ module _ (w s : List ℕ) where
       let even : length w ≡ 2 * (length w / 2) = omega (arith, eqb-true (length w % 2) 0 pairs) in
       let size : length (bytes-of w) ≡ length w / 2 = bytes-length (length w / 2) w even in
       let small : length w / 2 ≤ length s = leb-true (length w / 2) (length s) fits in
-      rw (none-is, empty-is, e) (ap some (sym (rw size at (first-put s (bytes-of w) (omega (arith, size, small))))), small)
+      rw (none-is, empty-is, e) (ap some (sym (first-put s (bytes-of w) {n = length w / 2} (omega (arith, size, small)) (omega (arith, size), refl) refl)), small)
   bytes-readable false e none-is empty-is = rw (none-is, empty-is, e)
 
   no-bytes : none-word w ≡ true → Read (bytes-in (length s) w) s (bytes-after w s) (bytes-count w s)
@@ -74,7 +79,7 @@ module _ (w s : List ℕ) where
       let same : length (numbers-of (parts 44 w)) ≡ length (parts 44 w) = eqb-true _ _ (and-left (length (numbers-of (parts 44 w)) =? length (parts 44 w)) (length (parts 44 w) ≤? length s) e) in
       let fits : length (parts 44 w) ≤ length s = leb-true _ _ (and-right (length (numbers-of (parts 44 w)) =? length (parts 44 w)) (length (parts 44 w) ≤? length s) e) in
       let small : length (numbers-of (parts 44 w)) ≤ length s = omega (arith, same, fits) in
-      rw (none-is, e, take-all (length s) (numbers-of (parts 44 w)) small) (ap some (sym (first-put s (numbers-of (parts 44 w)) small)), small)
+      rw (none-is, e, take-all (length s) (numbers-of (parts 44 w)) small) (ap some (sym (first-put s (numbers-of (parts 44 w)) {n = length (numbers-of (parts 44 w))} small (omega arith, refl) refl)), small)
   numbers false e none-is = rw (none-is, e)
 
   list-told : Read (list-in (length s) w) s (list-after w s) (count-of (list-in (length s) w))
@@ -95,13 +100,16 @@ module _ (o : Option (List ℕ)) (s last : List ℕ) (r : Count) (read : Read o 
   unfolding Read
   read-none e = rw e at read
 
-module _ (most : ℕ) (w s last : List ℕ) (r : Count) (size : length s ≡ most) where
+module _ (w s : List ℕ) {most : ℕ} {last : List ℕ} {r : Count} (size : length s ≡ most) where
   module _ (p : (r ≡ bytes-count w s) × (last ≡ bytes-after w s)) where
     bytes-read-is : Read (bytes-in most w) s last r
     bytes-read-is = rw (p .0, p .1, ← size) (bytes-told w s)
 
-    pub some-bytes : (n : ℕ) → r ≡ Of n → (bytes-in most w ≡ some (take n last)) × (n ≤ most)
-    some-bytes n e = rw size at (read-some (bytes-in most w) s last r bytes-read-is n e)
+    pub some-bytes : {n : ℕ} {x : List ℕ} → r ≡ Of n → x ≡ take n last → bytes-in most w ≡ some x
+    some-bytes {n} e f = read-some (bytes-in most w) s last r bytes-read-is n e .0 ∙ ap some (sym f)
+
+    pub bytes-few : {n : ℕ} → r ≡ Of n → n ≤ most
+    bytes-few {n} e = rw size at (read-some (bytes-in most w) s last r bytes-read-is n e .1)
 
     pub no-bytes-in : r ≡ Refused → bytes-in most w ≡ none
     no-bytes-in e = read-none (bytes-in most w) s last r bytes-read-is e
@@ -110,8 +118,8 @@ module _ (most : ℕ) (w s last : List ℕ) (r : Count) (size : length s ≡ mos
     list-read-is : Read (list-in most w) s last r
     list-read-is = rw (p .0, p .1, ← size) (list-told w s)
 
-    pub some-numbers : (n : ℕ) → r ≡ Of n → (list-in most w ≡ some (take n last)) × (n ≤ most)
-    some-numbers n e = rw size at (read-some (list-in most w) s last r list-read-is n e)
+    pub some-numbers : {n : ℕ} {x : List ℕ} → r ≡ Of n → x ≡ take n last → list-in most w ≡ some x
+    some-numbers {n} e f = read-some (list-in most w) s last r list-read-is n e .0 ∙ ap some (sym f)
 
     pub no-numbers-in : r ≡ Refused → list-in most w ≡ none
     no-numbers-in e = read-none (list-in most w) s last r list-read-is e

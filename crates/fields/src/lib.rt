@@ -1,9 +1,10 @@
 // The words of a line, read and written: numbers, lists of numbers, bytes in hexadecimal. Assumes nothing.
+ghost use mathlib.Core.List.{[], _∷_};
 ghost use mathlib.Core.Path.{_≡_};
 ghost use Prim.Native.Nat.{suc, _+_, _-_, _≤_};
 ghost use lib.ListN.{length, take, drop};
 ghost use Rattle.words.specs.Words.{put};
-ghost use Rattle.hex.specs.Room.{placed, behind, placed-all, behind-all};
+ghost use Rattle.hex.specs.Room.{Wrote};
 ghost use Rattle.text.specs.Text.{decimal};
 ghost use Rattle.fields.specs.Fields.{before, word-of, separators, number-of};
 ghost use Rattle.fields.specs.Fields.{none-word, bytes-count, bytes-after, bytes-word};
@@ -174,8 +175,7 @@ pub fn bytes(word: &[u8], out: &mut [u8]) -> Count
 
 // Writes a word at an offset, and answers the offset behind it: the same, and nothing written, without room.
 pub fn write_word(out: &mut [u8], at: usize, word: &[u8]) -> usize
-    ensures offset { λ r. ⌜ r ≡ behind (length (now (word .entry))) (now (out .entry)) at (now (word .entry)) ⌝ }
-    ensures text { λ _. ⌜ now (out .exit) ≡ placed (length (now (word .entry))) (now (out .entry)) at (now (word .entry)) ⌝ }
+    ensures { λ r. ⌜ Wrote (now (out .entry)) at (now (word .entry) ∷ []) r (now (out .exit)) ⌝ }
 {
     if out.len() < at {
         return at;
@@ -201,8 +201,7 @@ fn copy(out: &mut [u8], at: usize, word: &[u8])
 
 // Writes a number in decimal at an offset, and answers the offset behind it.
 pub fn write_number(out: &mut [u8], at: usize, n: u64) -> usize
-    ensures offset { λ r. ⌜ r ≡ behind (length (decimal n)) (now (out .entry)) at (decimal n) ⌝ }
-    ensures text { λ _. ⌜ now (out .exit) ≡ placed (length (decimal n)) (now (out .entry)) at (decimal n) ⌝ }
+    ensures { λ r. ⌜ Wrote (now (out .entry)) at (decimal n ∷ []) r (now (out .exit)) ⌝ }
 {
     // How many digits there are is known once they are written, and without room nothing may be.
     let mut digits: [u8; 20] = [0; 20];
@@ -219,8 +218,7 @@ fn wide(x: u16) -> u64
 
 // Writes the numbers of a list from its second on, each behind a comma, and answers the offset behind them.
 fn write_more(out: &mut [u8], at: usize, list: &[u16]) -> usize
-    ensures offset { λ r. ⌜ r ≡ behind-all (now (out .entry)) at (more-texts (drop 1 (now (list .entry)))) ⌝ }
-    ensures text { λ _. ⌜ now (out .exit) ≡ placed-all (now (out .entry)) at (more-texts (drop 1 (now (list .entry)))) ⌝ }
+    ensures { λ r. ⌜ Wrote (now (out .entry)) at (more-texts (drop 1 (now (list .entry)))) r (now (out .exit)) ⌝ }
 {
     let mut next = at;
     let mut i = 1;
@@ -234,8 +232,7 @@ fn write_more(out: &mut [u8], at: usize, list: &[u16]) -> usize
 
 // Writes a list of numbers at an offset, and answers the offset behind it.
 pub fn write_list(out: &mut [u8], at: usize, list: &[u16]) -> usize
-    ensures offset { λ r. ⌜ r ≡ behind-all (now (out .entry)) at (list-texts (now (list .entry))) ⌝ }
-    ensures text { λ _. ⌜ now (out .exit) ≡ placed-all (now (out .entry)) at (list-texts (now (list .entry))) ⌝ }
+    ensures { λ r. ⌜ Wrote (now (out .entry)) at (list-texts (now (list .entry))) r (now (out .exit)) ⌝ }
 {
     if list.len() == 0 {
         return write_word(out, at, b"-");
@@ -246,8 +243,7 @@ pub fn write_list(out: &mut [u8], at: usize, list: &[u16]) -> usize
 
 // Writes bytes in hexadecimal at an offset, and answers the offset behind them.
 pub fn write_bytes(out: &mut [u8], at: usize, bytes: &[u8]) -> usize
-    ensures offset { λ r. ⌜ r ≡ behind (length (bytes-word (now (bytes .entry)))) (now (out .entry)) at (bytes-word (now (bytes .entry))) ⌝ }
-    ensures text { λ _. ⌜ now (out .exit) ≡ placed (length (bytes-word (now (bytes .entry)))) (now (out .entry)) at (bytes-word (now (bytes .entry))) ⌝ }
+    ensures { λ r. ⌜ Wrote (now (out .entry)) at (bytes-word (now (bytes .entry)) ∷ []) r (now (out .exit)) ⌝ }
 {
     if bytes.len() == 0 {
         return write_word(out, at, b"-");

@@ -1,15 +1,11 @@
--- The first part of a buffer, as a part that is lent, and a number that fits 32 bits. Assumes nothing.
+-- A number that fits 32 bits. Assumes nothing.
 use mathlib.Core.List.{List}
 use mathlib.Core.Path.{_≡_}
-use Prim.Native.Nat.{ℕ, _-_, _%_}
+use Prim.Native.Nat.{ℕ, _%_}
 use native.Mathlib.Omega.{arith}
-use lib.ListN.{take, drop}
 use Rattle.fields.specs.declared.Value.the-variants.{Is}
 use Rattle.fields.specs.Laws.{number-most}
 use Rattle.asked.specs.Asked.{number-in}
-
-pub part-is : (l : List ℕ) (n : ℕ) → take (n - 0) (drop 0 l) ≡ take n l
-part-is l n = let size : n - 0 ≡ n = omega arith in rw size
 
 pub small-is : (w : List ℕ) (n : ℕ) → Is n ≡ number-in w → n % 4294967296 ≡ n
 unfolding number-in

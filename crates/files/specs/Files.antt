@@ -12,13 +12,9 @@ use Rattle.frames.specs.Frames.{fill-refusal, filled, look-refusal, looked}
 use Rattle.trace.specs.declared.Traced.{Traced}
 use Rattle.trace.specs.Layout.{traced, written, written-bytes}
 use Rattle.board.specs.Board as board
-use Rattle.fields.specs.Fields.{word-of, list-in, bytes-in, same-text}
-use Rattle.asked.specs.Asked.{most-in-word, word-default, number-in, run-of}
-use Rattle.answers.specs.Answers.{Texts, refusal-texts, number-texts, bytes-texts, record-texts, unless-refused, with-number, with-list, with-run, with-page}
-
--- The bytes of a word of a line.
-unfoldable pub with-bytes : List ℕ → (List ℕ → Texts) → Texts
-with-bytes word = with-list (bytes-in most-in-word word)
+use Rattle.fields.specs.Fields.{word-of, same-text}
+use Rattle.asked.specs.Asked.{word-default, number-in, run-of}
+use Rattle.answers.specs.Answers.{Texts, refusal-texts, number-texts, bytes-texts, record-texts, unless-refused, with-number, with-bytes, with-numbers, with-run, with-page, with-start}
 
 -- ---- fill RECORD PAGE AREA BYTES: `0 AREA` afterwards
 
@@ -29,7 +25,7 @@ unfoldable pub fill-texts : List ℕ → Run → ℕ → Texts
 fill-texts line r p = with-bytes (word-of 3 line) (λ area. with-bytes (word-of 4 line) (λ page. filled-texts r p area page))
 
 unfoldable pub fill-answer : List ℕ → Texts
-fill-answer line = with-page (run-of (word-of 1 line)) (number-in (word-of 2 line)) (fill-texts line)
+fill-answer line = with-page line (fill-texts line)
 
 -- ---- look RECORD PAGE AREA: the number, then the part handed back
 
@@ -37,8 +33,7 @@ unfoldable pub looked-texts : Run → ℕ → List ℕ → Texts
 looked-texts r p area = refusal-texts (look-refusal r p area) ++ bytes-texts (looked r p area)
 
 unfoldable pub look-answer : List ℕ → Texts
-look-answer line =
-    with-page (run-of (word-of 1 line)) (number-in (word-of 2 line)) (λ r p. with-bytes (word-of 3 line) (looked-texts r p))
+look-answer line = with-page line (λ r p. with-bytes (word-of 3 line) (looked-texts r p))
 
 -- ---- readtrace BYTES: `0 T OFFSET RECORD`
 
@@ -62,7 +57,7 @@ trace-texts N k list priorities requests buffer =
 
 unfoldable pub given-texts : ℕ → ℕ → List ℕ → List ℕ → List ℕ → List ℕ → Texts
 given-texts N k list word requests buffer =
-    with-list (list-in most-in-word word) (λ priorities. trace-texts N k list priorities requests buffer)
+    with-numbers word (λ priorities. trace-texts N k list priorities requests buffer)
 
 unfoldable pub prioritised-texts : ℕ → ℕ → List ℕ → List ℕ → List ℕ → List ℕ → Texts
 prioritised-texts N k list word requests buffer =
@@ -72,16 +67,12 @@ prioritised-texts N k list word requests buffer =
 
 unfoldable pub requested-texts : ℕ → ℕ → List ℕ → List ℕ → Texts
 requested-texts N k list line =
-    with-list (list-in most-in-word (word-of 5 line)) (λ requests.
+    with-numbers (word-of 5 line) (λ requests.
     with-bytes (word-of 6 line) (λ buffer.
     prioritised-texts N k list (word-of 4 line) requests buffer))
 
 unfoldable pub writetrace-answer : List ℕ → Texts
-writetrace-answer line =
-    with-number (number-in (word-of 1 line)) (λ N.
-    with-number (number-in (word-of 2 line)) (λ k.
-    with-list (list-in most-in-word (word-of 3 line)) (λ list.
-    requested-texts N k list line)))
+writetrace-answer line = with-start line (λ N k list. requested-texts N k list line)
 
 -- ---- readimage BYTES: `0 RECORD`
 

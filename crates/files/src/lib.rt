@@ -1,9 +1,7 @@
 // The questions about frames, files and images: the words of a line are read, the public call is made, and its answer written at
 // an offset; each answers the offset behind it. Assumes nothing.
-ghost use mathlib.Core.Path.{_≡_};
 ghost use lib.ListN.{length};
-ghost use Rattle.hex.specs.Room.{placed-all, behind-all};
-ghost use Rattle.frames.specs.Frames.{filled};
+ghost use Rattle.hex.specs.Room.{Wrote};
 ghost use Rattle.files.specs.Files.{filled-texts, fill-texts, looked-texts, traced-texts, written-texts};
 ghost use Rattle.files.specs.Files.{given-texts, prioritised-texts, requested-texts, restored-texts, stored-texts, boarded-texts};
 ghost use Rattle.files.specs.Files.{fill-answer, look-answer, readtrace-answer, writetrace-answer, readimage-answer, writeimage-answer, board-answer};
@@ -23,8 +21,7 @@ fn filled<'a>(
     out: &mut [u8],
     at: usize,
 ) -> usize
-    ensures offset { λ r. ⌜ r ≡ behind-all (now (out .entry)) at (filled-texts run page (now (area .entry)) (now (bytes .entry))) ⌝ }
-    ensures text { λ _. ⌜ now (out .exit) ≡ placed-all (now (out .entry)) at (filled-texts run page (now (area .entry)) (now (bytes .entry))) ⌝ }
+    ensures { λ r. ⌜ Wrote (now (out .entry)) at (filled-texts run page (now (area .entry)) (now (bytes .entry))) r (now (out .exit)) ⌝ }
 {
     let refusal = frames::fill(run, page, area, bytes);
     let next = answers::refusal(out, at, refusal);
@@ -36,8 +33,7 @@ fn filled<'a>(
 
 // The area and the bytes of a fill, behind its page.
 fn fill_of(line: &[u8], run: Run, page: usize, out: &mut [u8], at: usize) -> usize
-    ensures offset { λ r. ⌜ r ≡ behind-all (now (out .entry)) at (fill-texts (now (line .entry)) run page) ⌝ }
-    ensures text { λ _. ⌜ now (out .exit) ≡ placed-all (now (out .entry)) at (fill-texts (now (line .entry)) run page) ⌝ }
+    ensures { λ r. ⌜ Wrote (now (out .entry)) at (fill-texts (now (line .entry)) run page) r (now (out .exit)) ⌝ }
 {
     let mut area = asked::byte_room();
     let third = fields::bytes(fields::word(line, 3), &mut area);
@@ -61,8 +57,7 @@ fn fill_of(line: &[u8], run: Run, page: usize, out: &mut [u8], at: usize) -> usi
 
 // fill RECORD PAGE AREA BYTES
 pub fn fill(line: &[u8], out: &mut [u8], at: usize) -> usize
-    ensures offset { λ r. ⌜ r ≡ behind-all (now (out .entry)) at (fill-answer (now (line .entry))) ⌝ }
-    ensures text { λ _. ⌜ now (out .exit) ≡ placed-all (now (out .entry)) at (fill-answer (now (line .entry))) ⌝ }
+    ensures { λ r. ⌜ Wrote (now (out .entry)) at (fill-answer (now (line .entry))) r (now (out .exit)) ⌝ }
 {
     let paged = asked::read_paged(line);
     if !paged.good {
@@ -73,8 +68,7 @@ pub fn fill(line: &[u8], out: &mut [u8], at: usize) -> usize
 
 // The answer of a look at an area.
 fn looked(run: Run, page: usize, area: &[u8], out: &mut [u8], at: usize) -> usize
-    ensures offset { λ r. ⌜ r ≡ behind-all (now (out .entry)) at (looked-texts run page (now (area .entry))) ⌝ }
-    ensures text { λ _. ⌜ now (out .exit) ≡ placed-all (now (out .entry)) at (looked-texts run page (now (area .entry))) ⌝ }
+    ensures { λ r. ⌜ Wrote (now (out .entry)) at (looked-texts run page (now (area .entry))) r (now (out .exit)) ⌝ }
 {
     let number = frames::look_refusal(run, page, area);
     let next = answers::refusal(out, at, number);
@@ -83,8 +77,7 @@ fn looked(run: Run, page: usize, area: &[u8], out: &mut [u8], at: usize) -> usiz
 
 // look RECORD PAGE AREA
 pub fn look(line: &[u8], out: &mut [u8], at: usize) -> usize
-    ensures offset { λ r. ⌜ r ≡ behind-all (now (out .entry)) at (look-answer (now (line .entry))) ⌝ }
-    ensures text { λ _. ⌜ now (out .exit) ≡ placed-all (now (out .entry)) at (look-answer (now (line .entry))) ⌝ }
+    ensures { λ r. ⌜ Wrote (now (out .entry)) at (look-answer (now (line .entry))) r (now (out .exit)) ⌝ }
 {
     let paged = asked::read_paged(line);
     if !paged.good {
@@ -100,8 +93,7 @@ pub fn look(line: &[u8], out: &mut [u8], at: usize) -> usize
 
 // The answer of the trace reader.
 fn trace_read(traced: Traced, out: &mut [u8], at: usize) -> usize
-    ensures offset { λ r. ⌜ r ≡ behind-all (now (out .entry)) at (traced-texts traced) ⌝ }
-    ensures text { λ _. ⌜ now (out .exit) ≡ placed-all (now (out .entry)) at (traced-texts traced) ⌝ }
+    ensures { λ r. ⌜ Wrote (now (out .entry)) at (traced-texts traced) r (now (out .exit)) ⌝ }
 {
     let first = answers::refusal(out, at, traced.refusal);
     if traced.refusal != 0 {
@@ -114,8 +106,7 @@ fn trace_read(traced: Traced, out: &mut [u8], at: usize) -> usize
 
 // readtrace BYTES
 pub fn readtrace(line: &[u8], out: &mut [u8], at: usize) -> usize
-    ensures offset { λ r. ⌜ r ≡ behind-all (now (out .entry)) at (readtrace-answer (now (line .entry))) ⌝ }
-    ensures text { λ _. ⌜ now (out .exit) ≡ placed-all (now (out .entry)) at (readtrace-answer (now (line .entry))) ⌝ }
+    ensures { λ r. ⌜ Wrote (now (out .entry)) at (readtrace-answer (now (line .entry))) r (now (out .exit)) ⌝ }
 {
     let mut bytes = asked::byte_room();
     let count = fields::bytes(fields::word(line, 1), &mut bytes);
@@ -127,8 +118,7 @@ pub fn readtrace(line: &[u8], out: &mut [u8], at: usize) -> usize
 
 // The answer of a writer: how much it wrote, and the whole buffer.
 fn written(refusal: u8, length: usize, buffer: &[u8], out: &mut [u8], at: usize) -> usize
-    ensures offset { λ r. ⌜ r ≡ behind-all (now (out .entry)) at (written-texts refusal length (now (buffer .entry))) ⌝ }
-    ensures text { λ _. ⌜ now (out .exit) ≡ placed-all (now (out .entry)) at (written-texts refusal length (now (buffer .entry))) ⌝ }
+    ensures { λ r. ⌜ Wrote (now (out .entry)) at (written-texts refusal length (now (buffer .entry))) r (now (out .exit)) ⌝ }
 {
     let first = answers::refusal(out, at, refusal);
     if refusal != 0 {
@@ -149,8 +139,7 @@ fn trace_given<'a>(
     out: &mut [u8],
     at: usize,
 ) -> usize
-    ensures offset { λ r. ⌜ r ≡ behind-all (now (out .entry)) at (given-texts pages slots (now (list .entry)) (now (word .entry)) (now (requests .entry)) (now (buffer .entry))) ⌝ }
-    ensures text { λ _. ⌜ now (out .exit) ≡ placed-all (now (out .entry)) at (given-texts pages slots (now (list .entry)) (now (word .entry)) (now (requests .entry)) (now (buffer .entry))) ⌝ }
+    ensures { λ r. ⌜ Wrote (now (out .entry)) at (given-texts pages slots (now (list .entry)) (now (word .entry)) (now (requests .entry)) (now (buffer .entry))) r (now (out .exit)) ⌝ }
 {
     let mut room = asked::number_room();
     let count = fields::list(word, &mut room);
@@ -173,8 +162,7 @@ fn trace_by<'a>(
     out: &mut [u8],
     at: usize,
 ) -> usize
-    ensures offset { λ r. ⌜ r ≡ behind-all (now (out .entry)) at (prioritised-texts pages slots (now (list .entry)) (now (word .entry)) (now (requests .entry)) (now (buffer .entry))) ⌝ }
-    ensures text { λ _. ⌜ now (out .exit) ≡ placed-all (now (out .entry)) at (prioritised-texts pages slots (now (list .entry)) (now (word .entry)) (now (requests .entry)) (now (buffer .entry))) ⌝ }
+    ensures { λ r. ⌜ Wrote (now (out .entry)) at (prioritised-texts pages slots (now (list .entry)) (now (word .entry)) (now (requests .entry)) (now (buffer .entry))) r (now (out .exit)) ⌝ }
 {
     if check::same(word, b"default") {
         let done = trace::write_default(pages, slots, list, requests, buffer);
@@ -192,8 +180,7 @@ fn trace_requested<'a>(
     out: &mut [u8],
     at: usize,
 ) -> usize
-    ensures offset { λ r. ⌜ r ≡ behind-all (now (out .entry)) at (requested-texts pages slots (now (list .entry)) (now (line .entry))) ⌝ }
-    ensures text { λ _. ⌜ now (out .exit) ≡ placed-all (now (out .entry)) at (requested-texts pages slots (now (list .entry)) (now (line .entry))) ⌝ }
+    ensures { λ r. ⌜ Wrote (now (out .entry)) at (requested-texts pages slots (now (list .entry)) (now (line .entry))) r (now (out .exit)) ⌝ }
 {
     let mut requests = asked::number_room();
     let fifth = fields::list(fields::word(line, 5), &mut requests);
@@ -219,26 +206,17 @@ fn trace_requested<'a>(
 
 // writetrace N K LIST PRIORITIES REQUESTS BUFFER
 pub fn writetrace(line: &[u8], out: &mut [u8], at: usize) -> usize
-    ensures offset { λ r. ⌜ r ≡ behind-all (now (out .entry)) at (writetrace-answer (now (line .entry))) ⌝ }
-    ensures text { λ _. ⌜ now (out .exit) ≡ placed-all (now (out .entry)) at (writetrace-answer (now (line .entry))) ⌝ }
+    ensures { λ r. ⌜ Wrote (now (out .entry)) at (writetrace-answer (now (line .entry))) r (now (out .exit)) ⌝ }
 {
-    let first = asked::read_number(fields::word(line, 1));
-    let Value::Is(pages) = first else {
-        return answers::bad(out, at);
-    };
-    let second = asked::read_number(fields::word(line, 2));
-    let Value::Is(slots) = second else {
-        return answers::bad(out, at);
-    };
     let mut list = asked::number_room();
-    let third = fields::list(fields::word(line, 3), &mut list);
-    let Count::Of(listed) = third else {
+    let words = asked::read_start(line, &mut list);
+    if !words.good {
         return answers::bad(out, at);
-    };
+    }
     trace_requested(
-        pages as usize,
-        slots as usize,
-        fields::first_numbers(&list, listed),
+        words.pages,
+        words.slots,
+        fields::first_numbers(&list, words.listed),
         line,
         out,
         at,
@@ -247,8 +225,7 @@ pub fn writetrace(line: &[u8], out: &mut [u8], at: usize) -> usize
 
 // The answer of the image reader.
 fn image_read(restored: Restored, out: &mut [u8], at: usize) -> usize
-    ensures offset { λ r. ⌜ r ≡ behind-all (now (out .entry)) at (restored-texts restored) ⌝ }
-    ensures text { λ _. ⌜ now (out .exit) ≡ placed-all (now (out .entry)) at (restored-texts restored) ⌝ }
+    ensures { λ r. ⌜ Wrote (now (out .entry)) at (restored-texts restored) r (now (out .exit)) ⌝ }
 {
     let reading = restored.event;
     match reading {
@@ -262,8 +239,7 @@ fn image_read(restored: Restored, out: &mut [u8], at: usize) -> usize
 
 // readimage BYTES
 pub fn readimage(line: &[u8], out: &mut [u8], at: usize) -> usize
-    ensures offset { λ r. ⌜ r ≡ behind-all (now (out .entry)) at (readimage-answer (now (line .entry))) ⌝ }
-    ensures text { λ _. ⌜ now (out .exit) ≡ placed-all (now (out .entry)) at (readimage-answer (now (line .entry))) ⌝ }
+    ensures { λ r. ⌜ Wrote (now (out .entry)) at (readimage-answer (now (line .entry))) r (now (out .exit)) ⌝ }
 {
     let mut bytes = asked::byte_room();
     let count = fields::bytes(fields::word(line, 1), &mut bytes);
@@ -275,8 +251,7 @@ pub fn readimage(line: &[u8], out: &mut [u8], at: usize) -> usize
 
 // The answer of the image writer, over the whole of a buffer.
 fn stored(run: Run, buffer: &mut [u8], out: &mut [u8], at: usize) -> usize
-    ensures offset { λ r. ⌜ r ≡ behind-all (now (out .entry)) at (stored-texts run (now (buffer .entry))) ⌝ }
-    ensures text { λ _. ⌜ now (out .exit) ≡ placed-all (now (out .entry)) at (stored-texts run (now (buffer .entry))) ⌝ }
+    ensures { λ r. ⌜ Wrote (now (out .entry)) at (stored-texts run (now (buffer .entry))) r (now (out .exit)) ⌝ }
 {
     let done = run.store(buffer);
     written(done.refusal, done.length, buffer, out, at)
@@ -284,8 +259,7 @@ fn stored(run: Run, buffer: &mut [u8], out: &mut [u8], at: usize) -> usize
 
 // writeimage RECORD BUFFER
 pub fn writeimage(line: &[u8], out: &mut [u8], at: usize) -> usize
-    ensures offset { λ r. ⌜ r ≡ behind-all (now (out .entry)) at (writeimage-answer (now (line .entry))) ⌝ }
-    ensures text { λ _. ⌜ now (out .exit) ≡ placed-all (now (out .entry)) at (writeimage-answer (now (line .entry))) ⌝ }
+    ensures { λ r. ⌜ Wrote (now (out .entry)) at (writeimage-answer (now (line .entry))) r (now (out .exit)) ⌝ }
 {
     let described = asked::read_run(fields::word(line, 1));
     if !described.good {
@@ -301,8 +275,7 @@ pub fn writeimage(line: &[u8], out: &mut [u8], at: usize) -> usize
 
 // The answer of the board entry, over the whole of a buffer.
 fn boarded(image: &mut [u8], page: u32, out: &mut [u8], at: usize) -> usize
-    ensures offset { λ r. ⌜ r ≡ behind-all (now (out .entry)) at (boarded-texts (now (image .entry)) page) ⌝ }
-    ensures text { λ _. ⌜ now (out .exit) ≡ placed-all (now (out .entry)) at (boarded-texts (now (image .entry)) page) ⌝ }
+    ensures { λ r. ⌜ Wrote (now (out .entry)) at (boarded-texts (now (image .entry)) page) r (now (out .exit)) ⌝ }
 {
     let packed = board::timonedra_serve(image, page);
     let next = fields::write_number(out, at, packed as u64);
@@ -311,8 +284,7 @@ fn boarded(image: &mut [u8], page: u32, out: &mut [u8], at: usize) -> usize
 
 // board BYTES PAGE
 pub fn serve_board(line: &[u8], out: &mut [u8], at: usize) -> usize
-    ensures offset { λ r. ⌜ r ≡ behind-all (now (out .entry)) at (board-answer (now (line .entry))) ⌝ }
-    ensures text { λ _. ⌜ now (out .exit) ≡ placed-all (now (out .entry)) at (board-answer (now (line .entry))) ⌝ }
+    ensures { λ r. ⌜ Wrote (now (out .entry)) at (board-answer (now (line .entry))) r (now (out .exit)) ⌝ }
 {
     let mut bytes = asked::byte_room();
     let count = fields::bytes(fields::word(line, 1), &mut bytes);

@@ -7,11 +7,11 @@ use native.Mathlib.Numerals.{add-one}
 use native.Mathlib.Omega.{arith}
 use borrow.Author.Tests.{le-leb, lt-leb}
 use lib.ListN.{length, getD, set, take, drop, drop-of-length-le}
-use lib.Seq.{drop-cons, length-take-le, sets-eq, set-split, take-all, take-suc}
+use lib.Seq.{drop-cons, length-take-le, sets-eq, take-all, take-suc}
 use Rattle.words.specs.Words.{put}
 use Rattle.words.specs.Laws.{put-none, put-then}
 use Rattle.hex.specs.Hex.{value-of, digit-of, digits, all-digits, byte-of, bytes-of}
-use Rattle.hex.specs.Laws.{digits-length, digits-append, bytes-length, bytes-entry}
+use Rattle.hex.specs.Laws.{set-put, digits-length, digits-append, bytes-length, bytes-entry}
 
 -- ---- the loop that looks at each character
 
@@ -62,10 +62,6 @@ module _ (s : List ℕ) (at : ℕ) (bytes : List ℕ) where
   pairs-all i t l p = p ∙ rw (take-all i bytes l)
 
 -- ---- the loop that reads them
-
-set-put : (s : List ℕ) (i d : ℕ) → i < length s → set s i d ≡ put s i (d ∷ [])
-unfolding put
-set-put s i d l = rw (add-one i) (set-split s i d l)
 
 module _ (s word : List ℕ) (size : ℕ) (e : length word ≡ 2 * size) (h : size ≤ length s) where
   pub bytes-more :

@@ -3,15 +3,17 @@ use mathlib.Core.Bool.{Bool, true, false, _&&_}
 use mathlib.Core.List.{List, [], _∷_, _++_}
 use mathlib.Core.Path.{_≡_, refl, sym, ap, _∙_}
 use Prim.Native.Nat.{ℕ, zero, suc, _+_, _*_, _/_, _%_, _≤_, _<_}
+use native.Mathlib.Numerals.{add-one}
 use native.Mathlib.Omega.{arith}
 use borrow.Author.Tests.{leb-true, le-leb, lt-leb, le-ltb, lt-ltb, ltb-true, ltb-false, eq-eqb, ne-eqb}
-use lib.ListN.{length, getD, length-append}
+use lib.ListN.{length, getD, set, length-append}
+use lib.Seq.{set-split}
 use Rattle.paging.specs.Sets.{_=?_, _≤?_, _<?_, if_then_else_}
 use Rattle.words.specs.Words.{put}
 use Rattle.words.specs.Laws.{Bytes, put-length, put-put, put-none}
 use Rattle.hex.specs.declared.Count.the-variants.{Of, Refused}
 use Rattle.hex.specs.Hex.{value-of, digit-of, digits, all-digits, byte-of, bytes-of, readable, count-read, bytes-read}
-use Rattle.hex.specs.Room.{placed, behind, placed-all, behind-all}
+use Rattle.hex.specs.Room.{placed, behind, placed-all, behind-all, Wrote}
 
 second-fails : (a b d : Bool) → b ≡ false → (a && b && d) ≡ false
 second-fails true b d e = rw e
@@ -77,62 +79,65 @@ module _ (w s : List ℕ) where
   unfolding readable
   pairs-readable e l d = rw (eq-eqb (length w % 2) 0 (omega arith), le-leb _ _ l, d)
 
--- ---- room for a text
+-- ---- a number put at its place of a buffer
 
-module _ (room : ℕ) (s : List ℕ) (at : ℕ) (text : List ℕ) where
-  pub no-room : length s < at + room → (at ≡ behind room s at text) × (s ≡ placed room s at text)
-  unfolding behind placed
-  no-room l = (rw (lt-leb _ _ l), rw (lt-leb _ _ l))
+pub set-put : (s : List ℕ) (i d : ℕ) → i < length s → set s i d ≡ put s i (d ∷ [])
+unfolding put
+set-put s i d l = rw (add-one i) (set-split s i d l)
+
+-- ---- a text, with room for it or without
+
+module _ {s : List ℕ} {at : ℕ} {text : List ℕ} where
+  pub no-room : length s < at + length text → Wrote s at (text ∷ []) at s
+  unfolding behind-all placed-all behind placed
+  no-room l = record { offset = rw (lt-leb _ _ l); text = rw (lt-leb _ _ l) }
 
   pub with-room :
-      (r : ℕ) (last : List ℕ) →
-      at + room ≤ length s →
+      {r : ℕ} {s′ : List ℕ} →
+      at + length text ≤ length s →
       r ≡ at + length text →
-      last ≡ put s at text →
-      (r ≡ behind room s at text) × (last ≡ placed room s at text)
-  unfolding behind placed
-  with-room r last l e p = (rw (le-leb _ _ l) e, rw (le-leb _ _ l) p)
+      s′ ≡ put s at text →
+      Wrote s at (text ∷ []) r s′
+  unfolding behind-all placed-all behind placed
+  with-room l e p = record { offset = rw (le-leb _ _ l) e; text = rw (le-leb _ _ l) p }
 
 -- ---- texts one behind the other
 
--- What a writer of some texts answers and leaves.
-abbrev pub Told : List ℕ → ℕ → List (List ℕ) → ℕ → List ℕ → Type 0
-Told s at texts r last = (r ≡ behind-all s at texts) × (last ≡ placed-all s at texts)
-
-pub none-told : (s : List ℕ) (at : ℕ) → Told s at [] at s
+pub none-wrote : {s : List ℕ} {at : ℕ} → Wrote s at [] at s
 unfolding behind-all placed-all
-none-told s at = (refl, refl)
-
-pub one-told :
-    (s : List ℕ) (at : ℕ) (text : List ℕ) (r : ℕ) (last : List ℕ) →
-    (r ≡ behind (length text) s at text) × (last ≡ placed (length text) s at text) →
-    Told s at (text ∷ []) r last
-unfolding behind-all placed-all
-one-told s at text r last p = p
+none-wrote = record { offset = refl; text = refl }
 
 behind-append :
     (s : List ℕ) (at : ℕ) (xs ys : List (List ℕ)) →
     behind-all s at (xs ++ ys) ≡ behind-all (placed-all s at xs) (behind-all s at xs) ys
 unfolding behind-all placed-all
 behind-append s at [] ys = refl
-behind-append s at (x ∷ xs) ys = behind-append (placed (length x) s at x) (behind (length x) s at x) xs ys
+behind-append s at (x ∷ xs) ys = behind-append (placed s at x) (behind s at x) xs ys
 
 placed-append :
     (s : List ℕ) (at : ℕ) (xs ys : List (List ℕ)) →
     placed-all s at (xs ++ ys) ≡ placed-all (placed-all s at xs) (behind-all s at xs) ys
 unfolding behind-all placed-all
 placed-append s at [] ys = refl
-placed-append s at (x ∷ xs) ys = placed-append (placed (length x) s at x) (behind (length x) s at x) xs ys
+placed-append s at (x ∷ xs) ys = placed-append (placed s at x) (behind s at x) xs ys
 
-pub told-then :
-    (s : List ℕ) (at : ℕ) (xs ys : List (List ℕ)) (mid : ℕ) (t : List ℕ) (r : ℕ) (last : List ℕ) →
-    Told s at xs mid t →
-    Told t mid ys r last →
-    Told s at (xs ++ ys) r last
-told-then s at xs ys mid t r last p q =
-    (q .0 ∙ rw (p .0, p .1) (sym (behind-append s at xs ys)), q .1 ∙ rw (p .0, p .1) (sym (placed-append s at xs ys)))
+module _ {s : List ℕ} {at : ℕ} {xs : List (List ℕ)} {r : ℕ} {s′ : List ℕ} where
+  pub wrote-then : {ys : List (List ℕ)} {end : ℕ} {s″ : List ℕ} → Wrote s at xs r s′ → Wrote s′ r ys end s″ → Wrote s at (xs ++ ys) end s″
+  wrote-then {ys} p q =
+      record {
+        offset = q .offset ∙ rw (p .offset, p .text) (sym (behind-append s at xs ys));
+        text = q .text ∙ rw (p .offset, p .text) (sym (placed-append s at xs ys));
+      }
 
-placed-length : (s : List ℕ) (at : ℕ) (text : List ℕ) → length (placed (length text) s at text) ≡ length s
+  -- the same texts by another name
+  pub wrote-as : {ys : List (List ℕ)} → ys ≡ xs → Wrote s at xs r s′ → Wrote s at ys r s′
+  wrote-as e p = rw e p
+
+  -- two writers of the same texts answer and leave the same
+  pub wrote-once : {end : ℕ} {s″ : List ℕ} → Wrote s at xs r s′ → Wrote s at xs end s″ → (r ≡ end) × (s′ ≡ s″)
+  wrote-once p q = (p .offset ∙ sym (q .offset), p .text ∙ sym (q .text))
+
+placed-length : (s : List ℕ) (at : ℕ) (text : List ℕ) → length (placed s at text) ≡ length s
 unfolding placed
 placed-length s at text = go (at + length text ≤? length s) refl
   where
@@ -145,7 +150,7 @@ pub placed-all-length : (s : List ℕ) (at : ℕ) (texts : List (List ℕ)) → 
 unfolding placed-all
 placed-all-length s at [] = refl
 placed-all-length s at (t ∷ ts) =
-    placed-all-length (placed (length t) s at t) (behind (length t) s at t) ts ∙ placed-length s at t
+    placed-all-length (placed s at t) (behind s at t) ts ∙ placed-length s at t
 
 -- All the texts together.
 unfoldable pub all-text : List (List ℕ) → List ℕ
@@ -157,16 +162,13 @@ pub all-placed :
     (s : List ℕ) (at : ℕ) (texts : List (List ℕ)) →
     at + length (all-text texts) ≤ length s →
     (behind-all s at texts ≡ at + length (all-text texts)) × (placed-all s at texts ≡ put s at (all-text texts))
-unfolding behind-all placed-all all-text
+unfolding behind-all placed-all behind placed all-text
 all-placed s at [] l = (omega arith, sym (put-none s at))
 all-placed s at (t ∷ ts) l =
     let size = length-append t (all-text ts) in
     let fits : at + length t ≤ length s = omega (arith, size) in
-    let first : (behind (length t) s at t ≡ at + length t) × (placed (length t) s at t ≡ put s at t) =
-    let told = with-room (length t) s at t (at + length t) (put s at t) fits refl refl in
-    (sym (told .0), sym (told .1)) in
     let rest = all-placed (put s at t) (at + length t) ts (omega (arith, size, put-length s at t fits)) in
-    rw (first .0, first .1) (rest .0 ∙ omega (arith, size), rest .1 ∙ put-put s at t (all-text ts) fits)
+    rw (le-leb _ _ fits) (rest .0 ∙ omega (arith, size), rest .1 ∙ put-put s at t (all-text ts) fits)
 
 -- ---- what is written is read back
 

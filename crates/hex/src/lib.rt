@@ -1,10 +1,11 @@
 // Bytes as lower-case hexadecimal digits, two for each: read from a word, written into a lent buffer. Assumes nothing.
+ghost use mathlib.Core.List.{[], _∷_};
 ghost use mathlib.Core.Path.{_≡_};
 ghost use Prim.Native.Nat.{_+_, _*_, _≤_};
 ghost use lib.ListN.{length};
 ghost use Rattle.words.specs.Words.{put};
 ghost use Rattle.hex.specs.Hex.{value-of, digit-of, digits, all-digits, byte-of, bytes-of, count-read, bytes-read};
-ghost use Rattle.hex.specs.Room.{placed, behind};
+ghost use Rattle.hex.specs.Room.{Wrote};
 
 // How many entries a word gave.
 pub enum Count {
@@ -111,8 +112,7 @@ fn write_pairs(out: &mut [u8], at: usize, bytes: &[u8])
 
 // Writes bytes in hexadecimal at an offset, and answers the offset behind them: the same, and nothing written, without room.
 pub fn write(out: &mut [u8], at: usize, bytes: &[u8]) -> usize
-    ensures offset { λ r. ⌜ r ≡ behind (2 * length (now (bytes .entry))) (now (out .entry)) at (digits (now (bytes .entry))) ⌝ }
-    ensures text { λ _. ⌜ now (out .exit) ≡ placed (2 * length (now (bytes .entry))) (now (out .entry)) at (digits (now (bytes .entry))) ⌝ }
+    ensures { λ r. ⌜ Wrote (now (out .entry)) at (digits (now (bytes .entry)) ∷ []) r (now (out .exit)) ⌝ }
 {
     if out.len() < at {
         return at;

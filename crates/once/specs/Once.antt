@@ -14,8 +14,7 @@ use Rattle.run.proofs.Run.selection.Reads as selection
 use Rattle.run.proofs.Run.is_sound.Reads as is-sound
 use Rattle.run.proofs.Run.restore.Reads as restore
 use Rattle.run.proofs.Run.store.Reads as store
-use Rattle.run.proofs.Run.request_of_sound.Reads as request-of-sound
-use Rattle.run.proofs.Run.serve.Reads as serve
+use Rattle.run.proofs.Run.request_in.Reads as request-in
 use Rattle.frames.proofs.fill.Reads as fill
 use Rattle.frames.proofs.look.Reads as look
 use Rattle.frames.proofs.look_refusal.Reads as look-refusal
@@ -71,16 +70,13 @@ selection-once κ a x y s t p q = p ∙ sym q
 pub is-sound-once : Once is-sound.Post
 is-sound-once κ a x y s t p q = p ∙ sym q
 
-pub request-of-sound-once : Once request-of-sound.Post
-request-of-sound-once κ a x y s t p q = p ∙ sym q
-
-pub serve-once : Once serve.Post
-serve-once κ a x y s t p q = p ∙ sym q
-
 -- ---- a stored run
 
 pub restore-once : Once restore.Post
 restore-once κ a x y s t p q = p .0 ∙ sym (q .0)
+
+pub request-in-once : Once request-in.Post
+request-in-once κ a x y s t p q = p ∙ sym q
 
 pub store-once : OnceLeft store.Post (λ κ s. s .1 .0 .now)
 store-once κ a x y s t p q = (p .0 ∙ sym (q .0), p .1 ∙ sym (q .1))

@@ -1,13 +1,19 @@
 -- No second answer meets the contract of a part: of each public function below the calls and of the programs' parts. As in Once,
 -- `C.Post` is the contract as the checker holds the code to it. Assumes nothing.
 use mathlib.Core.Path.{_≡_, sym, ap, _∙_}
+use mathlib.Core.Bool.{Bool}
 use Prim.Native.Nat.{ℕ}
-use Rattle.replay.specs.declared.Counts.{Counts}
+use Rattle.ranking.specs.Key.{Keyed, key-at}
+use Rattle.serve.specs.Step.{Ranked}
+use Rattle.counts.specs.declared.Counts.{Counts}
 use Rattle.replay.specs.declared.Played.{Played}
+use Rattle.hex.specs.Laws.{wrote-once}
 use Rattle.once.specs.Once.{Once, OnceLeft, Left}
 use Rattle.ranking.proofs.default_priority.Reads as ranking-default-priority
-use Rattle.ranking.proofs.outranks.Reads as ranking-outranks
 use Rattle.ranking.proofs.key.Reads as ranking-key
+use Rattle.ranking.proofs.fixed.Reads as ranking-fixed
+use Rattle.ranking.proofs.keys.Reads as ranking-keys
+use Rattle.ranking.proofs.page_of.Reads as ranking-page-of
 use Rattle.words.proofs.read_u16.Reads as words-read-u16
 use Rattle.words.proofs.read_u32.Reads as words-read-u32
 use Rattle.words.proofs.write_u32.Reads as words-write-u32
@@ -16,11 +22,12 @@ use Rattle.layers.proofs.first_sinking.Reads as layers-first-sinking
 use Rattle.layers.proofs.sink_near.Reads as layers-sink-near
 use Rattle.layers.proofs.ask.Reads as layers-ask
 use Rattle.layers.proofs.pages_in.Reads as layers-pages-in
+use Rattle.layers.proofs.alone.Reads as layers-alone
 use Rattle.layers.proofs.bounded.Reads as layers-bounded
 use Rattle.layers.proofs.wide.Reads as layers-wide
 use Rattle.layers.proofs.filled.Reads as layers-filled
 use Rattle.layers.proofs.no_layer_from.Reads as layers-no-layer-from
-use Rattle.layers.proofs.no_priority_from.Reads as layers-no-priority-from
+use Rattle.layers.proofs.no_number_from.Reads as layers-no-number-from
 use Rattle.layers.proofs.no_page_from.Reads as layers-no-page-from
 use Rattle.slots.proofs.find.Reads as slots-find
 use Rattle.slots.proofs.nears.Reads as slots-nears
@@ -29,11 +36,9 @@ use Rattle.slots.proofs.counts.Reads as slots-counts
 use Rattle.slots.proofs.reach.Reads as slots-reach
 use Rattle.slots.proofs.lowest.Reads as slots-lowest
 use Rattle.slots.proofs.lows.Reads as slots-lows
-use Rattle.slots.proofs.page_of.Reads as slots-page-of
 use Rattle.selection.proofs.selected.Reads as selection-selected
 use Rattle.begin.proofs.limits_refusal.Reads as begin-limits-refusal
-use Rattle.begin.proofs.all_below.Reads as begin-all-below
-use Rattle.begin.proofs.all_different.Reads as begin-all-different
+use Rattle.begin.proofs.refusal.Reads as begin-refusal
 use Rattle.begin.proofs.layers_of.Reads as begin-layers-of
 use Rattle.begin.proofs.priorities_of.Reads as begin-priorities-of
 use Rattle.begin.proofs.default_priorities.Reads as begin-default-priorities
@@ -46,6 +51,11 @@ use Rattle.image.proofs.agree.Reads as image-agree
 use Rattle.image.proofs.write.Reads as image-write
 use Rattle.certify.proofs.tables.Reads as certify-tables
 use Rattle.serve.proofs.step.Reads as serve-step
+use Rattle.counts.proofs.counted.Reads as counts-counted
+use Rattle.counts.proofs.new_page.Reads as counts-new-page
+use Rattle.counts.proofs.refusal.Reads as counts-refusal
+use Rattle.counts.proofs.fit.Reads as counts-fit
+use Rattle.counts.proofs.none.Reads as counts-none
 use Rattle.run.proofs.Run.in_image.Reads as run-in-image
 use Rattle.replay.proofs.play.Reads as replay-play
 use Rattle.replay.proofs.misses.Reads as replay-misses
@@ -81,6 +91,7 @@ use Rattle.asked.proofs.number_room.Reads as asked-number-room
 use Rattle.asked.proofs.read_number.Reads as asked-read-number
 use Rattle.asked.proofs.read_run.Reads as asked-read-run
 use Rattle.asked.proofs.read_paged.Reads as asked-read-paged
+use Rattle.asked.proofs.read_start.Reads as asked-read-start
 use Rattle.answers.proofs.bad.Reads as answers-bad
 use Rattle.answers.proofs.refusal.Reads as answers-refusal
 use Rattle.answers.proofs.then_number.Reads as answers-then-number
@@ -108,11 +119,17 @@ use Rattle.kinds.proofs.answer.Reads as kinds-answer
 pub ranking-default-priority-once : Once ranking-default-priority.Post
 ranking-default-priority-once κ a x y s t p q = p ∙ sym q
 
-pub ranking-outranks-once : Once ranking-outranks.Post
-ranking-outranks-once κ a x y s t p q = p ∙ sym q
-
 pub ranking-key-once : Once ranking-key.Post
 ranking-key-once κ a x y s t p q = p ∙ sym q
+
+pub ranking-page-of-once : Once ranking-page-of.Post
+ranking-page-of-once κ a x y s t p q = p ∙ sym q
+
+pub ranking-keys-once : Once ranking-keys.Post
+ranking-keys-once κ a x y s t p q = p .0 ∙ sym (q .0)
+
+pub ranking-fixed-once : Once ranking-fixed.Post
+ranking-fixed-once κ a x y s t p q = p ∙ sym q
 
 -- ---- numbers in bytes
 
@@ -154,11 +171,14 @@ layers-filled-once κ a x y s t p q = p ∙ sym q
 pub layers-no-layer-from-once : Once layers-no-layer-from.Post
 layers-no-layer-from-once κ a x y s t p q = p ∙ sym q
 
-pub layers-no-priority-from-once : Once layers-no-priority-from.Post
-layers-no-priority-from-once κ a x y s t p q = p ∙ sym q
-
 pub layers-no-page-from-once : Once layers-no-page-from.Post
 layers-no-page-from-once κ a x y s t p q = p ∙ sym q
+
+pub layers-no-number-from-once : Once layers-no-number-from.Post
+layers-no-number-from-once κ a x y s t p q = p ∙ sym q
+
+pub layers-alone-once : Once layers-alone.Post
+layers-alone-once κ a x y s t p q = p ∙ sym q
 
 -- ---- slots
 
@@ -183,9 +203,6 @@ slots-lowest-once κ a x y s t p q = p ∙ sym q
 pub slots-lows-once : Once slots-lows.Post
 slots-lows-once κ a x y s t p q = p ∙ sym q
 
-pub slots-page-of-once : Once slots-page-of.Post
-slots-page-of-once κ a x y s t p q = p ∙ sym q
-
 -- ---- the selection
 
 pub selection-selected-once : Once selection-selected.Post
@@ -196,11 +213,8 @@ selection-selected-once κ a x y s t p q = p ∙ sym q
 pub begin-limits-refusal-once : Once begin-limits-refusal.Post
 begin-limits-refusal-once κ a x y s t p q = p ∙ sym q
 
-pub begin-all-below-once : Once begin-all-below.Post
-begin-all-below-once κ a x y s t p q = p ∙ sym q
-
-pub begin-all-different-once : Once begin-all-different.Post
-begin-all-different-once κ a x y s t p q = p ∙ sym q
+pub begin-refusal-once : Once begin-refusal.Post
+begin-refusal-once κ a x y s t p q = p ∙ sym q
 
 pub begin-layers-of-once : Once begin-layers-of.Post
 begin-layers-of-once κ a x y s t p q = p ∙ sym q
@@ -236,30 +250,56 @@ image-write-once κ a x y s t p q = p ∙ sym q
 
 -- ---- soundness of the tables
 
-pub certify-tables-once : Once certify-tables.Post
-certify-tables-once κ a x y s t p q = p ∙ sym q
+-- Where the keys stand for a ranking.
+pub certify-tables-once :
+    (κ : _) (a : _) (x y : _) (s t : _) (o : ℕ → ℕ → Bool) →
+    Keyed (a .1 .1 .1 .0) o (key-at (a .1 .0 .now)) →
+    certify-tables.Post κ a x s →
+    certify-tables.Post κ a y t →
+    x ≡ y
+certify-tables-once κ a x y s t o w p q = p o w ∙ sym (q o w)
 
 -- ---- a step of a sound run
 
--- An event, and what four lent tables hold.
+-- An event, and what four lent tables hold, where the tables have a ranking before the request and after it.
 pub serve-step-once :
-    (κ : _) (a : _) (x y : _) (s t : _) →
+    (κ : _) (a : _) (x y : _) (s t : _) (o : ℕ → ℕ → Bool) (key key′ : ℕ → ℕ) →
+    Ranked (a .1 .1 .1 .1 .0) (a .1 .1 .1 .1 .1 .0) (a .1 .1 .1 .1 .1 .1 .0) o key key′ (a .0 .now) (a .1 .0 .now) (a .1 .1 .1 .0 .now) (a .1 .1 .1 .1 .1 .1 .1 .0) →
     serve-step.Post κ a x s →
     serve-step.Post κ a y t →
     (x ≡ y)
     × (s .0 .now ≡ t .0 .now)
+    × (s .1 .0 .now ≡ t .1 .0 .now)
     × (s .1 .1 .0 .now ≡ t .1 .1 .0 .now)
     × (s .1 .1 .1 .0 .now ≡ t .1 .1 .1 .0 .now)
-    × (s .1 .1 .1 .1 .0 .now ≡ t .1 .1 .1 .1 .0 .now)
-serve-step-once κ a x y s t p q =
-    let layers = p .layer-is ∙ sym (q .layer-is) in
-    let slots = p .held-is ∙ sym (q .held-is) in (
-      p .event-is ∙ sym (q .event-is),
+serve-step-once κ a x y s t o key key′ w p q =
+    let f = p o key key′ w in
+    let g = q o key key′ w in
+    let layers = f .layer-is ∙ sym (g .layer-is) in
+    let slots = f .held-is ∙ sym (g .held-is) in (
+      f .event-is ∙ sym (g .event-is),
       layers,
       slots,
-      p .near-is ∙ rw (layers, slots) (sym (q .near-is)),
-      p .keys-is ∙ rw slots (sym (q .keys-is)),
+      f .near-is ∙ rw (layers, slots) (sym (g .near-is)),
+      f .keys-is ∙ rw slots (sym (g .keys-is)),
     )
+
+-- ---- the counts
+
+pub counts-none-once : Once counts-none.Post
+counts-none-once κ a x y s t p q = p ∙ sym q
+
+pub counts-fit-once : Once counts-fit.Post
+counts-fit-once κ a x y s t p q = p ∙ sym q
+
+pub counts-refusal-once : Once counts-refusal.Post
+counts-refusal-once κ a x y s t p q = p ∙ sym q
+
+pub counts-new-page-once : Once counts-new-page.Post
+counts-new-page-once κ a x y s t p q = p ∙ sym q
+
+pub counts-counted-once : Once counts-counted.Post
+counts-counted-once κ a x y s t p q = p ∙ sym q
 
 -- ---- a run
 
@@ -317,7 +357,7 @@ pub hex-read-once : OnceLeft hex-read.Post (λ κ s. s .1 .0 .now)
 hex-read-once κ a x y s t p q = (p .0 ∙ sym (q .0), p .1 ∙ sym (q .1))
 
 pub hex-write-once : OnceLeft hex-write.Post (λ κ s. s .0 .now)
-hex-write-once κ a x y s t p q = (p .0 ∙ sym (q .0), p .1 ∙ sym (q .1))
+hex-write-once κ a x y s t p q = wrote-once p q
 
 -- ---- words of a line
 
@@ -349,16 +389,16 @@ pub fields-bytes-once : OnceLeft fields-bytes.Post (λ κ s. s .1 .0 .now)
 fields-bytes-once κ a x y s t p q = (p .0 ∙ sym (q .0), p .1 ∙ sym (q .1))
 
 pub fields-write-word-once : OnceLeft fields-write-word.Post (λ κ s. s .0 .now)
-fields-write-word-once κ a x y s t p q = (p .0 ∙ sym (q .0), p .1 ∙ sym (q .1))
+fields-write-word-once κ a x y s t p q = wrote-once p q
 
 pub fields-write-number-once : OnceLeft fields-write-number.Post (λ κ s. s .0 .now)
-fields-write-number-once κ a x y s t p q = (p .0 ∙ sym (q .0), p .1 ∙ sym (q .1))
+fields-write-number-once κ a x y s t p q = wrote-once p q
 
 pub fields-write-list-once : OnceLeft fields-write-list.Post (λ κ s. s .0 .now)
-fields-write-list-once κ a x y s t p q = (p .0 ∙ sym (q .0), p .1 ∙ sym (q .1))
+fields-write-list-once κ a x y s t p q = wrote-once p q
 
 pub fields-write-bytes-once : OnceLeft fields-write-bytes.Post (λ κ s. s .0 .now)
-fields-write-bytes-once κ a x y s t p q = (p .0 ∙ sym (q .0), p .1 ∙ sym (q .1))
+fields-write-bytes-once κ a x y s t p q = wrote-once p q
 
 -- ---- the trace program
 
@@ -393,73 +433,76 @@ asked-read-run-once κ a x y s t p q = p ∙ sym q
 pub asked-read-paged-once : Once asked-read-paged.Post
 asked-read-paged-once κ a x y s t p q = p ∙ sym q
 
+pub asked-read-start-once : OnceLeft asked-read-start.Post (λ κ s. s .1 .0 .now)
+asked-read-start-once κ a x y s t p q = (p .0 ∙ sym (q .0), p .1 ∙ sym (q .1))
+
 -- ---- the words of an answer
 
 pub answers-bad-once : OnceLeft answers-bad.Post (λ κ s. s .0 .now)
-answers-bad-once κ a x y s t p q = (p .0 ∙ sym (q .0), p .1 ∙ sym (q .1))
+answers-bad-once κ a x y s t p q = wrote-once p q
 
 pub answers-refusal-once : OnceLeft answers-refusal.Post (λ κ s. s .0 .now)
-answers-refusal-once κ a x y s t p q = (p .0 ∙ sym (q .0), p .1 ∙ sym (q .1))
+answers-refusal-once κ a x y s t p q = wrote-once p q
 
 pub answers-then-number-once : OnceLeft answers-then-number.Post (λ κ s. s .0 .now)
-answers-then-number-once κ a x y s t p q = (p .0 ∙ sym (q .0), p .1 ∙ sym (q .1))
+answers-then-number-once κ a x y s t p q = wrote-once p q
 
 pub answers-then-bytes-once : OnceLeft answers-then-bytes.Post (λ κ s. s .0 .now)
-answers-then-bytes-once κ a x y s t p q = (p .0 ∙ sym (q .0), p .1 ∙ sym (q .1))
+answers-then-bytes-once κ a x y s t p q = wrote-once p q
 
 pub answers-then-record-once : OnceLeft answers-then-record.Post (λ κ s. s .0 .now)
-answers-then-record-once κ a x y s t p q = (p .0 ∙ sym (q .0), p .1 ∙ sym (q .1))
+answers-then-record-once κ a x y s t p q = wrote-once p q
 
 pub answers-event-once : OnceLeft answers-event.Post (λ κ s. s .0 .now)
-answers-event-once κ a x y s t p q = (p .0 ∙ sym (q .0), p .1 ∙ sym (q .1))
+answers-event-once κ a x y s t p q = wrote-once p q
 
 -- ---- questions about a run
 
 pub calls-start-once : OnceLeft calls-start.Post (λ κ s. s .1 .0 .now)
-calls-start-once κ a x y s t p q = (p .0 ∙ sym (q .0), p .1 ∙ sym (q .1))
+calls-start-once κ a x y s t p q = wrote-once p q
 
 pub calls-request-once : OnceLeft calls-request.Post (λ κ s. s .1 .0 .now)
-calls-request-once κ a x y s t p q = (p .0 ∙ sym (q .0), p .1 ∙ sym (q .1))
+calls-request-once κ a x y s t p q = wrote-once p q
 
 pub calls-trial-once : OnceLeft calls-trial.Post (λ κ s. s .1 .0 .now)
-calls-trial-once κ a x y s t p q = (p .0 ∙ sym (q .0), p .1 ∙ sym (q .1))
+calls-trial-once κ a x y s t p q = wrote-once p q
 
 pub calls-layer-once : OnceLeft calls-layer.Post (λ κ s. s .1 .0 .now)
-calls-layer-once κ a x y s t p q = (p .0 ∙ sym (q .0), p .1 ∙ sym (q .1))
+calls-layer-once κ a x y s t p q = wrote-once p q
 
 pub calls-certain-once : OnceLeft calls-certain.Post (λ κ s. s .1 .0 .now)
-calls-certain-once κ a x y s t p q = (p .0 ∙ sym (q .0), p .1 ∙ sym (q .1))
+calls-certain-once κ a x y s t p q = wrote-once p q
 
 pub calls-selection-once : OnceLeft calls-selection.Post (λ κ s. s .1 .0 .now)
-calls-selection-once κ a x y s t p q = (p .0 ∙ sym (q .0), p .1 ∙ sym (q .1))
+calls-selection-once κ a x y s t p q = wrote-once p q
 
 pub calls-sound-once : OnceLeft calls-sound.Post (λ κ s. s .1 .0 .now)
-calls-sound-once κ a x y s t p q = (p .0 ∙ sym (q .0), p .1 ∙ sym (q .1))
+calls-sound-once κ a x y s t p q = wrote-once p q
 
 -- ---- questions about frames, files and images
 
 pub files-fill-once : OnceLeft files-fill.Post (λ κ s. s .1 .0 .now)
-files-fill-once κ a x y s t p q = (p .0 ∙ sym (q .0), p .1 ∙ sym (q .1))
+files-fill-once κ a x y s t p q = wrote-once p q
 
 pub files-look-once : OnceLeft files-look.Post (λ κ s. s .1 .0 .now)
-files-look-once κ a x y s t p q = (p .0 ∙ sym (q .0), p .1 ∙ sym (q .1))
+files-look-once κ a x y s t p q = wrote-once p q
 
 pub files-readtrace-once : OnceLeft files-readtrace.Post (λ κ s. s .1 .0 .now)
-files-readtrace-once κ a x y s t p q = (p .0 ∙ sym (q .0), p .1 ∙ sym (q .1))
+files-readtrace-once κ a x y s t p q = wrote-once p q
 
 pub files-writetrace-once : OnceLeft files-writetrace.Post (λ κ s. s .1 .0 .now)
-files-writetrace-once κ a x y s t p q = (p .0 ∙ sym (q .0), p .1 ∙ sym (q .1))
+files-writetrace-once κ a x y s t p q = wrote-once p q
 
 pub files-readimage-once : OnceLeft files-readimage.Post (λ κ s. s .1 .0 .now)
-files-readimage-once κ a x y s t p q = (p .0 ∙ sym (q .0), p .1 ∙ sym (q .1))
+files-readimage-once κ a x y s t p q = wrote-once p q
 
 pub files-writeimage-once : OnceLeft files-writeimage.Post (λ κ s. s .1 .0 .now)
-files-writeimage-once κ a x y s t p q = (p .0 ∙ sym (q .0), p .1 ∙ sym (q .1))
+files-writeimage-once κ a x y s t p q = wrote-once p q
 
 pub files-serve-board-once : OnceLeft files-serve-board.Post (λ κ s. s .1 .0 .now)
-files-serve-board-once κ a x y s t p q = (p .0 ∙ sym (q .0), p .1 ∙ sym (q .1))
+files-serve-board-once κ a x y s t p q = wrote-once p q
 
 -- ---- which question a line is
 
 pub kinds-answer-once : OnceLeft kinds-answer.Post (λ κ s. s .1 .0 .now)
-kinds-answer-once κ a x y s t p q = (p .0 ∙ sym (q .0), p .1 ∙ sym (q .1))
+kinds-answer-once κ a x y s t p q = wrote-once p q

@@ -1,10 +1,8 @@
 -- Document 01, 'Counts': what the requests make of the layers and of best. No priority is mentioned. Assumes nothing.
-use mathlib.Core.Bool.{false}
 use mathlib.Core.List.{List, [], _∷_}
 use mathlib.Core.Path.{_≡_}
-use Prim.Native.Nat.{ℕ, _+_, _-_, _≤_, _<_}
-use lib.ListN.{length}
-use Rattle.paging.specs.Sets.{_=?_, _≤?_, _<?_, if_then_else_, Pages, count}
+use Prim.Native.Nat.{ℕ, _+_, _-_, _<_}
+use Rattle.paging.specs.Sets.{_=?_, _≤?_, _<?_, if_then_else_, Pages}
 use Rattle.paging.specs.Layers.{start-layer, asked-known, next, Layered}
 
 -- The layers of the pages, best, and how many slots are still free: none in document 01's runs.

@@ -4,7 +4,7 @@ use mathlib.Core.Bool.{Bool}
 use mathlib.Core.List.{List, [], _∷_, _++_, map}
 use mathlib.Core.Option.{Option, some}
 use mathlib.Core.Path.{_≡_, refl}
-use Prim.Native.Nat.{ℕ, zero, suc, _+_}
+use Prim.Native.Nat.{ℕ, zero, suc}
 use lib.ListN.{getD}
 use Rattle.paging.specs.Sets.{_<?_, if_then_else_, Pages, count, each, first, lowest, without, remove, insert}
 use Rattle.paging.specs.Layers.{in-layer, start-layer, asked-new, asked-known, next}

@@ -14,7 +14,7 @@ use Rattle.paging.specs.Sets.{_<?_, if_then_else_, unless_give_else_}
 use Rattle.paging.specs.Tests.{truth}
 use Rattle.counts.specs.Counts.{most-served, page-refusal}
 use Rattle.run.specs.Sound.{Sound, sound}
-use Rattle.serve.specs.Event.{Values, values}
+use Rattle.serve.specs.Event.{values}
 use Rattle.run.specs.Cached.{cached, slot-of, victim-of}
 use Rattle.run.specs.Request.{served, requested, refused, with-hit, with-miss, refusal-values, miss-values, request-values}
 use Rattle.run.specs.SoundLaws.{sound-iff}

@@ -2,7 +2,6 @@
 use mathlib.Core.Bool.{Bool, true, _&&_, Bool·beq}
 use mathlib.Core.Logic.{_↔_}
 use mathlib.Core.Path.{_≡_, sym}
-use Prim.Native.Nat.{ℕ, _≤_}
 use native.Mathlib.Omega.{arith}
 use lib.ListN.{drop}
 use Rattle.paging.specs.Sets.{Pages, each, only}
@@ -15,7 +14,7 @@ use Rattle.begin.specs.Limits.{pages-fit, slots-fit}
 use Rattle.begin.specs.LimitLaws.{Limits, fit-pages, fit-slots, pages-within, slots-within}
 use Rattle.certify.specs.Test.{layers-fit, ends-clear}
 use Rattle.certify.specs.Tables.{seats-fit, tables-sound}
-use Rattle.certify.specs.Laws.{Clauses, sound-parts, parts-sound, sound-clauses, clauses-sound}
+use Rattle.certify.specs.Laws.{sound-parts, parts-sound, sound-clauses, clauses-sound}
 use Rattle.counts.specs.Counts.{counts-fit}
 use Rattle.counts.specs.Laws.{Fit, fit-iff}
 use Rattle.run.specs.declared.Run.{Run}

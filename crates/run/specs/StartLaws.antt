@@ -24,7 +24,6 @@ use Rattle.slots.specs.Slots.{no-page}
 use Rattle.slots.specs.Laws.{seated-in, seated-was}
 use Rattle.begin.specs.Limits.{most-pages, most-slots, pages-fit, slots-fit}
 use Rattle.begin.specs.Begin.{below, different, start-layers, start-priorities, start-slots}
-use Rattle.ranking.specs.Ranks.{fixed-ranks}
 use Rattle.counts.specs.Counts.{no-counts}
 use Rattle.begin.specs.LimitLaws.{fit-pages, fit-slots}
 use Rattle.begin.specs.Laws.{below-true, different-true}

@@ -26,7 +26,6 @@ use Rattle.counts.specs.Counts.{no-counts, most-served, more}
 use Rattle.run.specs.Numbers.{layer, blank-run}
 use Rattle.run.specs.Cached.{slot-of}
 use Rattle.run.specs.Sound.{Sound, sound}
-use Rattle.ranking.specs.Ranks.{fixed-ranks}
 use Rattle.run.specs.Start.{start-run, listed-run}
 use Rattle.run.specs.Request.{counted, next-run, requested}
 use Rattle.run.specs.Stored.{stored-bytes, image-counts, image-run, restored, image-of, store-refusal}

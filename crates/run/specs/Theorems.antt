@@ -20,7 +20,6 @@ use Rattle.paging.specs.Tests.{truth, is, same-or-not, le-or-lt}
 use Rattle.paging.specs.Lower.{after-full}
 use Rattle.paging.specs.FullRuns.{serve-full-is, after-more, below-more, least-same}
 use Rattle.paging.specs.Theorems.{start-least}
-use Rattle.ranking.specs.Ranks.{fixed-ranks}
 use Rattle.ranking.specs.Defaults.{default-priorities}
 use Rattle.counts.specs.Counts.{no-counts, most-served, more}
 use Rattle.run.specs.Numbers.{layer, in-slot}

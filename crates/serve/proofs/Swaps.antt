@@ -14,7 +14,7 @@ use Rattle.slots.specs.declared.Found.the-variants.{At, Nowhere}
 use Rattle.slots.specs.Slots.{seated, seat, found, near-of}
 use Rattle.slots.specs.Laws.{seat-found, seat-some, seat-none, near-length}
 use Rattle.serve.specs.declared.Event.the-variants.{Hit, Miss, Refused}
-use Rattle.serve.specs.Step.{Ready, Ranked, Stepped, Steps, victim-in, least-page, search-to}
+use Rattle.serve.specs.Step.{Ready, Ranked, Steps, victim-in, least-page, search-to}
 use Rattle.serve.specs.Searches.{victim-seated}
 use Rattle.serve.specs.Steps.{victim-found-by-slots, victim-is-there, hit-stepped, top-stepped, miss-stepped}
 use Rattle.serve.proofs.Victims.{found-at, found-none}

@@ -18,6 +18,13 @@ pub enum Event {
     Refused { number: u8 },
 }
 
+// The first layer that the search for a victim tries: the page's own, and not the one above it.
+fn first_tried(own: u8) -> u8
+    ensures { λ r. ⌜ r ≡ own ⌝ }
+{
+    own
+}
+
 // Up to which layer a miss of a page of layer i looks for its victim.
 fn search(near: &[u8; 64], slots: u8, i: u8) -> Found
     requires { ⌜ slots ≤ 64 ⌝ }
@@ -26,7 +33,7 @@ fn search(near: &[u8; 64], slots: u8, i: u8) -> Found
     if i == 0 {
         return Found::At(slots as usize);
     }
-    slots::reach(near, slots, i)
+    slots::reach(near, slots, first_tried(i))
 }
 
 // The page that makes room for a page of layer i.

@@ -9,7 +9,6 @@ use native.Mathlib.Numerals.{add-one}
 use native.Mathlib.Omega.{arith}
 use lib.Dec.{eqb}
 use lib.ListN.{length, getD, set, replicate, List·getD-eq-default}
-use borrow.Author.Count.{below-more}
 use borrow.Author.Tests.{eqb-true, eq-eqb, ne-eqb, le-leb, lt-leb}
 use Rattle.paging.specs.Sets.{_=?_, _≤?_, if_then_else_, bit, count, or-else, first, listed}
 use Rattle.paging.specs.Tests.{clash, isnt, and-in, and-right, le-or-lt}

@@ -1,6 +1,5 @@
 -- The running sum and the running minimum over the layers: what a slot adds to its layer, and a layer to those before it.
 -- Assumes nothing.
-use mathlib.Core.Bool.{Bool, true, false}
 use mathlib.Core.List.{List}
 use mathlib.Core.Logic.{⊎-elim}
 use mathlib.Core.Path.{_≡_, refl, sym, ap, _∙_}
@@ -10,7 +9,7 @@ use native.Mathlib.Omega.{arith}
 use lib.Dec.{eqb, leb}
 use lib.ListN.{getD, set, replicate}
 use borrow.Author.Tests.{eq-eqb, ne-eqb, le-leb, lt-leb}
-use Rattle.paging.specs.Sets.{if_then_else_, bit, count, listed}
+use Rattle.paging.specs.Sets.{if_then_else_, count, listed}
 use Rattle.paging.specs.Tests.{le-or-lt, same-or-not}
 use Rattle.paging.specs.Tables.{listed-entry, listed-set}
 use Rattle.ranking.specs.Key.{no-key}

@@ -13,7 +13,7 @@ use borrow.Author.Tests.{eqb-true, eqb-false, eq-eqb, leb-true}
 use Rattle.paging.specs.Sets.{listed}
 use Rattle.paging.specs.Tests.{truth, same-or-not, and-left, and-right}
 use Rattle.paging.specs.Tables.{listed-length, listed-entry, listed-same}
-use Rattle.words.specs.Words.{bytes, words, word-at}
+use Rattle.words.specs.Words.{words, word-at}
 use Rattle.words.specs.Laws.{Bytes, words-length, word-at-words, listed-words, words-word-at, number-bytes-4, take-put, drop-put}
 use Rattle.ranking.specs.Defaults.{default-priority, default-priorities}
 use Rattle.begin.specs.LimitLaws.{limits-none}

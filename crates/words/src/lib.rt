@@ -1,6 +1,6 @@
 // 16- and 32-bit numbers in byte slices, low byte first: read and written at an offset, alone or in lists. Assumes nothing.
 ghost use mathlib.Core.Path.{_≡_};
-ghost use Prim.Native.Nat.{ℕ, _+_, _*_, _≤_};
+ghost use Prim.Native.Nat.{_+_, _*_, _≤_};
 ghost use lib.ListN.{length};
 ghost use Rattle.words.specs.Words.{bytes, words, word-at, put};
 

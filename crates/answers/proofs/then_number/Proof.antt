@@ -1,36 +1,13 @@
 -- `answers::then_number` meets its contract. Assumes nothing.
-use Rattle.hex.specs.Laws.{one-told, told-then}
+use Rattle.hex.specs.Laws.{wrote-then}
 use Rattle.answers.specs.Answers.{number-texts}
 use borrow.Author.Needs.{needs}
 use Rattle.answers.proofs.then_number.Statement.{statement}
 use Rattle.answers.proofs.then_number.Tie as tie
 
-slice-aggregate-write-word : tie.Need-slice-aggregate-write-word
-slice-aggregate-write-word c = search needs
-
-write-word-requires : tie.Need-write-word-requires
-write-word-requires c κs = search needs
-
-write-number-requires : tie.Need-write-number-requires
-write-number-requires c κs = search needs
-
-same-length : tie.Need-same-length
-same-length c = search needs
-
 returns : tie.Need-returns
 unfolding number-texts
-returns c =
-    told-then
-    _ _ _ _ _ _ _ _
-    (one-told _ _ _ _ _ (c .before .before .before .before .before .before .write-word .ensures))
-    (one-told _ _ _ _ _ (c .before .before .write-number .ensures))
+returns c = wrote-then (c .before .before .before .before .before .before .write-word .ensures) (c .before .before .write-number .ensures)
 
 pub then-number-spec : {M : Type 1} → statement M
-then-number-spec =
-    tie.close
-    (tie.spec
-    slice-aggregate-write-word
-    write-word-requires
-    write-number-requires
-    same-length
-    returns)
+then-number-spec = tie.close (tie.spec (search needs) (search needs) (search needs) (search needs) returns)

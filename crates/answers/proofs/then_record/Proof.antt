@@ -7,24 +7,6 @@ use borrow.Author.Needs.{needs}
 use Rattle.answers.proofs.then_record.Statement.{statement}
 use Rattle.answers.proofs.then_record.Tie as tie
 
-slice-aggregate-store : tie.Need-slice-aggregate-store
-slice-aggregate-store c = search needs
-
-store-requires : tie.Need-store-requires
-store-requires c κs = search needs
-
-slice-aggregate-first : tie.Need-slice-aggregate-first
-slice-aggregate-first c = search needs
-
-first-requires : tie.Need-first-requires
-first-requires c κs = search needs
-
-then-bytes-requires : tie.Need-then-bytes-requires
-then-bytes-requires c κs = search needs
-
-same-length : tie.Need-same-length
-same-length c = search needs
-
 returns : tie.Need-returns
 unfolding record-texts
 returns c =
@@ -37,10 +19,4 @@ pub then-record-spec : {M : Type 1} → statement M
 then-record-spec =
     tie.close
     (tie.spec
-    slice-aggregate-store
-    store-requires
-    slice-aggregate-first
-    first-requires
-    then-bytes-requires
-    same-length
-    returns)
+    (search needs) (search needs) (search needs) (search needs) (search needs) (search needs) returns)

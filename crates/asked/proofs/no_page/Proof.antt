@@ -3,11 +3,8 @@ use borrow.Author.Needs.{needs}
 use Rattle.asked.proofs.no_page.Statement.{statement}
 use Rattle.asked.proofs.no_page.Tie as tie
 
-blank-requires : tie.Need-blank-requires
-blank-requires c κs = search needs
-
 returns : tie.Need-returns
 returns c = rw (c .blank .ensures)
 
 pub no-page-spec : {M : Type 1} → statement M
-no-page-spec = tie.close (tie.spec blank-requires returns)
+no-page-spec = tie.close (tie.spec (search needs) returns)

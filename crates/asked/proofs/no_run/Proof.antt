@@ -3,11 +3,8 @@ use borrow.Author.Needs.{needs}
 use Rattle.asked.proofs.no_run.Statement.{statement}
 use Rattle.asked.proofs.no_run.Tie as tie
 
-blank-requires : tie.Need-blank-requires
-blank-requires c κs = search needs
-
 returns : tie.Need-returns
 returns c = rw (c .blank .ensures)
 
 pub no-run-spec : {M : Type 1} → statement M
-no-run-spec = tie.close (tie.spec blank-requires returns)
+no-run-spec = tie.close (tie.spec (search needs) returns)

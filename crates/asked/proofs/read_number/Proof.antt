@@ -4,12 +4,9 @@ use Rattle.asked.specs.Asked.{number-in}
 use Rattle.asked.proofs.read_number.Statement.{statement}
 use Rattle.asked.proofs.read_number.Tie as tie
 
-number-requires : tie.Need-number-requires
-number-requires c κs = search needs
-
 returns : tie.Need-returns
 unfolding number-in
 returns c = c .number .ensures
 
 pub read-number-spec : {M : Type 1} → statement M
-read-number-spec = tie.close (tie.spec number-requires returns)
+read-number-spec = tie.close (tie.spec (search needs) returns)

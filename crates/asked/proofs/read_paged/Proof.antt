@@ -9,15 +9,6 @@ use borrow.Author.Needs.{needs}
 use Rattle.asked.proofs.read_paged.Statement.{statement}
 use Rattle.asked.proofs.read_paged.Tie as tie
 
-word-requires : tie.Need-word-requires
-word-requires c κs = search needs
-
-read-run-requires : tie.Need-read-run-requires
-read-run-requires c κs = search needs
-
-no-page-requires : tie.Need-no-page-requires
-no-page-requires c κs = search needs
-
 returns : tie.Need-returns
 returns c =
     let read = c .before .before in
@@ -26,21 +17,6 @@ returns c =
 -- the record is that of a run
 run-read : (c : tie.Else1) → run-of (word-of 1 (c .before .before .before .before .args .line .now)) ≡ some (c .before .read-run .result .run)
 run-read c = ap run-of (sym (c .before .before .word .ensures)) ∙ good-run _ _ (c .before .read-run .ensures) (not-false _ (c .if1 .left))
-
-word-requires-2 : tie.Need-word-requires-2
-word-requires-2 c κs = search needs
-
-read-number-requires : tie.Need-read-number-requires
-read-number-requires c κs = search needs
-
-enum-known-number : tie.Need-enum-known-number
-enum-known-number c = search needs
-
-enum-told : tie.Need-enum-told
-enum-told c = search needs
-
-no-page-requires-2 : tie.Need-no-page-requires-2
-no-page-requires-2 c κs = search needs
 
 returns-2 : tie.Need-returns-2
 returns-2 c =
@@ -58,14 +34,6 @@ pub read-paged-spec : {M : Type 1} → statement M
 read-paged-spec =
     tie.close
     (tie.spec
-    word-requires
-    read-run-requires
-    no-page-requires
-    returns
-    word-requires-2
-    read-number-requires
-    enum-known-number
-    enum-told
-    no-page-requires-2
-    returns-2
+    (search needs) (search needs) (search needs) returns
+    (search needs) (search needs) (search needs) (search needs) (search needs) returns-2
     returns-3)

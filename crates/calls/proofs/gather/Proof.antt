@@ -16,24 +16,12 @@ abbrev μ-loop : tie.MeasureT-loop
 loop-holds : tie.Need-loop-holds Inv-loop μ-loop
 loop-holds c = (gathering-first _ _, search needs)
 
-cast-put-page : tie.Need-cast-put-page Inv-loop μ-loop
-cast-put-page c = search needs
-
-shared-slice-read-put-page : tie.Need-shared-slice-read-put-page Inv-loop μ-loop
-shared-slice-read-put-page c = search needs
-
 put-page-requires : tie.Need-put-page-requires Inv-loop μ-loop
 put-page-requires c κs =
     let loop = c .before .before .before .loop in
     let pre = c .before .before .before .before .before .before .pre in
     let loop-test = c .before .before .loop-test in
     omega (arith, loop .inv .0 .few, loop .inv .0 .size, pre .1, loop-test .taken)
-
-add-q : tie.Need-add-q Inv-loop μ-loop
-add-q c = search needs
-
-loop-less : tie.Need-loop-less Inv-loop μ-loop
-loop-less c = search needs
 
 loop-again : tie.Need-loop-again Inv-loop μ-loop
 loop-again c =
@@ -57,14 +45,8 @@ pub gather-spec : {M : Type 1} → statement M
 gather-spec =
     tie.close
     (tie.spec
-    Inv-loop
-    μ-loop
-    loop-holds
-    cast-put-page
-    shared-slice-read-put-page
-    put-page-requires
-    add-q
-    loop-less
-    loop-again
+    Inv-loop μ-loop loop-holds
+    (search needs) (search needs) put-page-requires
+    (search needs) (search needs) loop-again
     same-length
     returns)

@@ -1,60 +1,20 @@
 -- `calls::layer` meets its contract, by what was read. Assumes nothing.
-use borrow.Author.Tests.{not-true, not-false}
 use Rattle.answers.specs.Laws.{page-known, page-bad}
-use Rattle.calls.specs.Calls.{layer-answer, of-page, layer-texts}
-use Rattle.asked.specs.Asked.{paged-of}
+use Rattle.calls.specs.Calls.{layer-answer, layer-texts}
 use borrow.Author.Needs.{needs}
 use Rattle.calls.proofs.layer.Statement.{statement}
 use Rattle.calls.proofs.layer.Tie as tie
 
-read-paged-requires : tie.Need-read-paged-requires
-read-paged-requires c κs = search needs
-
-bad-requires : tie.Need-bad-requires
-bad-requires c κs = search needs
-
-same-length : tie.Need-same-length
-same-length c = search needs
-
-returns : tie.Need-returns
-unfolding layer-answer of-page paged-of
-returns c =
-    let read-paged = c .before .before .before .before .before .before .read-paged in
-    let if1 = c .before .before .before .before .if1 in
-    let bad = c .before .before .bad in
-    page-bad _ _ _ _ _ _ _ (read-paged .ensures) _ (not-true _ (if1 .taken)) (bad .ensures)
-
-layer-requires : tie.Need-layer-requires
-layer-requires c κs = search needs
-
-cast-number-unless : tie.Need-cast-number-unless
-cast-number-unless c = search needs
-
-number-unless-requires : tie.Need-number-unless-requires
-number-unless-requires c κs = search needs
-
-same-length-2 : tie.Need-same-length-2
-same-length-2 c = search needs
-
 returns-2 : tie.Need-returns-2
-unfolding layer-answer of-page paged-of layer-texts
+unfolding layer-answer layer-texts
 returns-2 c =
-    let read-paged = c .before .before .before .before .before .before .before .before .read-paged in
-    let if1 = c .before .before .before .before .before .before .if1 in
-    let layer = c .before .before .before .before .before .layer in
-    let number-unless = c .before .before .number-unless in
-    page-known _ _ _ _ _ _ _ (read-paged .ensures) _ (not-false _ (if1 .left)) (rw (layer .ensures) at (number-unless .ensures))
+    let read = c .before .before .before .before .before .before in
+    page-known _ _ (read .before .before .read-paged .ensures) (read .if1 .left) (rw (c .before .before .before .before .before .layer .ensures) at (c .before .before .number-unless .ensures))
 
 pub layer-spec : {M : Type 1} → statement M
+unfolding layer-answer
 layer-spec =
     tie.close
     (tie.spec
-    read-paged-requires
-    bad-requires
-    same-length
-    returns
-    layer-requires
-    cast-number-unless
-    number-unless-requires
-    same-length-2
-    returns-2)
+    (search needs) (search needs) (search needs) (λ c. search page-bad)
+    (search needs) (search needs) (search needs) (search needs) returns-2)

@@ -1,5 +1,5 @@
 -- `certify::none_late` meets its contract. The loop's invariant: `all` says whether each page passed is in time. Assumes nothing.
-use Prim.Native.Nat.{_-_, _≤_, _<_}
+use Prim.Native.Nat.{_-_, _≤_}
 use mathlib.Core.Path.{_≡_, refl, _∙_}
 use native.Mathlib.Omega.{arith}
 use lib.ListN.{getD}

@@ -1,5 +1,4 @@
 -- `counts::new_page` meets its contract. Assumes nothing.
-use Prim.Native.Nat.{_-_}
 use borrow.Author.Needs.{needs}
 use borrow.Author.Tests.{eq-eqb, ne-eqb}
 use Rattle.counts.proofs.new_page.Statement.{statement}

@@ -1,5 +1,4 @@
 -- The prefix of `damaged::prefix`: it has the length it is cut to. Assumes nothing.
-use Prim.Native.Nat.{_-_}
 use mathlib.Core.Path.{sym}
 use lib.Seq.{length-take-le}
 use borrow.Author.Needs.{needs}

@@ -6,20 +6,11 @@ use Rattle.fields.proofs.bytes.Statement.{statement}
 use Rattle.fields.proofs.bytes.Tie as tie
 use Rattle.fields.proofs.Steps.{bytes-none, bytes-empty, bytes-some}
 
-is-none-requires : tie.Need-is-none-requires
-is-none-requires c κs = search needs
-
 returns : tie.Need-returns
 returns c = bytes-none _ _ (sym (c .before .is-none .ensures) ∙ c .if1 .taken)
 
 returns-2 : tie.Need-returns-2
 returns-2 c = bytes-empty _ _ (sym (c .before .before .is-none .ensures) ∙ c .before .if1 .left) (search needs)
-
-read-requires : tie.Need-read-requires
-read-requires c κs = search needs
-
-same-length : tie.Need-same-length
-same-length c = search needs
 
 returns-3 : tie.Need-returns-3
 returns-3 c =
@@ -27,5 +18,4 @@ returns-3 c =
     bytes-some _ _ _ _ (sym (d .before .is-none .ensures) ∙ d .if1 .left) (λ e. omega arith) (c .before .before .read .ensures)
 
 pub bytes-spec : {M : Type 1} → statement M
-bytes-spec =
-    tie.close (tie.spec is-none-requires returns returns-2 read-requires same-length returns-3)
+bytes-spec = tie.close (tie.spec (search needs) returns returns-2 (search needs) (search needs) returns-3)

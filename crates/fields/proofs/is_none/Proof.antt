@@ -9,11 +9,8 @@ use Rattle.fields.proofs.is_none.Tie as tie
 returns : tie.Need-returns
 returns c = sym (none-longer _ (λ e. omega arith))
 
-shared-slice-read-result : tie.Need-shared-slice-read-result
-shared-slice-read-result c = search needs
-
 returns-2 : tie.Need-returns-2
 returns-2 c = sym (none-one _ (search needs))
 
 pub is-none-spec : {M : Type 1} → statement M
-is-none-spec = tie.close (tie.spec returns shared-slice-read-result returns-2)
+is-none-spec = tie.close (tie.spec returns (search needs) returns-2)

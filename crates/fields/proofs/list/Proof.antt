@@ -17,58 +17,16 @@ Inv-loop word out₀ n₀ from₀ out n from = Reading word out₀ out n from ×
 abbrev μ-loop : tie.MeasureT-loop
 μ-loop word out₀ n₀ from₀ out n from = length out₀ - n
 
-is-none-requires : tie.Need-is-none-requires Inv-loop μ-loop
-is-none-requires c κs = search needs
-
 returns : tie.Need-returns Inv-loop μ-loop
 returns c = no-numbers _ _ (sym (c .before .is-none .ensures) ∙ c .if1 .taken)
 
 loop-holds : tie.Need-loop-holds Inv-loop μ-loop
 loop-holds c = (reading-first _ _, sym (c .before .is-none .ensures) ∙ c .if1 .left)
 
-end-of-requires : tie.Need-end-of-requires Inv-loop μ-loop
-end-of-requires c κs = search needs
-
-sub-number : tie.Need-sub-number Inv-loop μ-loop
-sub-number c = search needs
-
-part-number-start : tie.Need-part-number-start Inv-loop μ-loop
-part-number-start c = search needs
-
-part-number-end : tie.Need-part-number-end Inv-loop μ-loop
-part-number-end c = search needs
-
-number-requires : tie.Need-number-requires Inv-loop μ-loop
-number-requires c κs = search needs
-
-enum-known-entry : tie.Need-enum-known-entry Inv-loop μ-loop
-enum-known-entry c = search needs
-
-enum-told : tie.Need-enum-told Inv-loop μ-loop
-enum-told c = search needs
-
-same-length : tie.Need-same-length Inv-loop μ-loop
-same-length c = search needs
-
 returns-2 : tie.Need-returns-2 Inv-loop μ-loop
 returns-2 c =
     let l = c .before .before .before .before .before .before .loop in
     reading-bad _ _ _ _ _ (l .inv .0) (l .inv .1) _ (c .before .before .before .before .end-of .ensures .0) (sym (c .enum-told .given .1) ∙ c .before .before .number .ensures)
-
-cast-out : tie.Need-cast-out Inv-loop μ-loop
-cast-out c = search needs
-
-mul-out : tie.Need-mul-out Inv-loop μ-loop
-mul-out c = search needs
-
-slice-write-out : tie.Need-slice-write-out Inv-loop μ-loop
-slice-write-out c = search needs
-
-add-n : tie.Need-add-n Inv-loop μ-loop
-add-n c = search needs
-
-same-length-2 : tie.Need-same-length-2 Inv-loop μ-loop
-same-length-2 c = search needs
 
 returns-3 : tie.Need-returns-3 Inv-loop μ-loop
 returns-3 c =
@@ -77,12 +35,6 @@ returns-3 c =
     let same : c .before .before .entry .given .0 .0 % 65536 ≡ c .before .before .entry .given .0 .0 = omega (arith, number-most _ _ _ x-is) in
     rw same
     (reading-last _ _ _ _ _ (l .inv .0) (l .inv .1) _ (c .before .before .before .before .before .before .end-of .ensures .0) _ x-is (search needs) (c .if2 .taken))
-
-add-from : tie.Need-add-from Inv-loop μ-loop
-add-from c = search needs
-
-loop-less : tie.Need-loop-less Inv-loop μ-loop
-loop-less c = search needs
 
 loop-again : tie.Need-loop-again Inv-loop μ-loop
 loop-again c =
@@ -94,9 +46,6 @@ loop-again c =
       l .inv .1,
     )
 
-same-length-3 : tie.Need-same-length-3 Inv-loop μ-loop
-same-length-3 c = search needs
-
 returns-4 : tie.Need-returns-4 Inv-loop μ-loop
 returns-4 c = reading-full _ _ _ _ _ (c .before .loop .inv .0) (c .before .loop .inv .1) (search needs)
 
@@ -104,28 +53,11 @@ pub list-spec : {M : Type 1} → statement M
 list-spec =
     tie.close
     (tie.spec
-    Inv-loop
-    μ-loop
-    is-none-requires
-    returns
+    Inv-loop μ-loop (search needs) returns
     loop-holds
-    end-of-requires
-    sub-number
-    part-number-start
-    part-number-end
-    number-requires
-    enum-known-entry
-    enum-told
-    same-length
-    returns-2
-    cast-out
-    mul-out
-    slice-write-out
-    add-n
-    same-length-2
+    (search needs) (search needs) (search needs) (search needs) (search needs) (search needs) (search needs)
+    (search needs) returns-2
+    (search needs) (search needs) (search needs) (search needs) (λ c. search needs)
     returns-3
-    add-from
-    loop-less
-    loop-again
-    same-length-3
-    returns-4)
+    (search needs) (search needs) loop-again
+    (search needs) returns-4)

@@ -23,9 +23,6 @@ returns c = sym (number-none _ _ (search needs))
 loop-holds : tie.Need-loop-holds Inv-loop μ-loop
 loop-holds c = (search needs, search needs, refl)
 
-shared-slice-read-c : tie.Need-shared-slice-read-c Inv-loop μ-loop
-shared-slice-read-c c = search needs
-
 returns-2 : tie.Need-returns-2 Inv-loop μ-loop
 returns-2 c =
     let l = c .before .before .before .loop in
@@ -36,25 +33,10 @@ returns-3 c =
     let l = c .before .before .before .before .loop in
     sym (number-first _ _ (λ e. omega arith) ∙ l .inv .2 ∙ char-high _ _ _ (l .i) (search needs) (search needs) (search needs))
 
-mul-n : tie.Need-mul-n Inv-loop μ-loop
-mul-n c = search needs
-
-cast-n : tie.Need-cast-n Inv-loop μ-loop
-cast-n c = search needs
-
-add-n : tie.Need-add-n Inv-loop μ-loop
-add-n c = search needs
-
 returns-4 : tie.Need-returns-4 Inv-loop μ-loop
 returns-4 c =
     let l = c .before .before .before .before .before .loop in
     sym (number-first _ _ (λ e. omega arith) ∙ l .inv .2 ∙ digit-more _ _ _ (l .i) (search needs) (search needs) (search needs) ∙ number-large _ _ _ (search needs))
-
-add-i : tie.Need-add-i Inv-loop μ-loop
-add-i c = search needs
-
-loop-less : tie.Need-loop-less Inv-loop μ-loop
-loop-less c = search needs
 
 loop-again : tie.Need-loop-again Inv-loop μ-loop
 loop-again c =
@@ -70,18 +52,10 @@ pub number-spec : {M : Type 1} → statement M
 number-spec =
     tie.close
     (tie.spec
-    Inv-loop
-    μ-loop
-    returns
+    Inv-loop μ-loop returns
     loop-holds
-    shared-slice-read-c
-    returns-2
+    (search needs) returns-2
     returns-3
-    mul-n
-    cast-n
-    add-n
-    returns-4
-    add-i
-    loop-less
-    loop-again
+    (search needs) (search needs) (search needs) returns-4
+    (search needs) (search needs) loop-again
     returns-5)

@@ -17,21 +17,6 @@ Inv-loop line n₀ i₀ n i = (i ≤ length line) × (n ≤ i + 1) × (n + separ
 abbrev μ-loop : tie.MeasureT-loop
 μ-loop line n₀ i₀ n i = length line - i
 
-loop-holds : tie.Need-loop-holds Inv-loop μ-loop
-loop-holds c = search needs
-
-shared-slice-read-if1 : tie.Need-shared-slice-read-if1 Inv-loop μ-loop
-shared-slice-read-if1 c = search needs
-
-add-n : tie.Need-add-n Inv-loop μ-loop
-add-n c = search needs
-
-add-i : tie.Need-add-i Inv-loop μ-loop
-add-i c = search needs
-
-loop-less : tie.Need-loop-less Inv-loop μ-loop
-loop-less c = search needs
-
 loop-again : tie.Need-loop-again Inv-loop μ-loop
 loop-again c =
     let l = c .before .before .before .loop in
@@ -47,12 +32,6 @@ pub words-in-spec : {M : Type 1} → statement M
 words-in-spec =
     tie.close
     (tie.spec
-    Inv-loop
-    μ-loop
-    loop-holds
-    shared-slice-read-if1
-    add-n
-    add-i
-    loop-less
+    Inv-loop μ-loop (search needs) (search needs) (search needs) (search needs) (search needs)
     loop-again
     returns)

@@ -3,37 +3,18 @@ use native.Mathlib.Omega.{arith}
 use borrow.Author.Needs.{needs}
 use Rattle.fields.proofs.write_bytes.Statement.{statement}
 use Rattle.fields.proofs.write_bytes.Tie as tie
-use Rattle.fields.proofs.Steps.{none-told, some-told}
-
-slice-aggregate-write-word : tie.Need-slice-aggregate-write-word
-slice-aggregate-write-word c = search needs
-
-write-word-requires : tie.Need-write-word-requires
-write-word-requires c κs = search needs
-
-same-length : tie.Need-same-length
-same-length c = search needs
+use Rattle.hex.specs.Laws.{wrote-as}
+use Rattle.fields.proofs.Steps.{word-empty, word-some}
 
 returns : tie.Need-returns
-returns c = none-told _ _ _ _ _ (search needs) (c .before .before .write-word .ensures)
-
-write-requires : tie.Need-write-requires
-write-requires c κs = search needs
-
-same-length-2 : tie.Need-same-length-2
-same-length-2 c = search needs
+returns c = wrote-as (word-empty _ (search needs)) (c .before .before .write-word .ensures)
 
 returns-2 : tie.Need-returns-2
-returns-2 c = some-told _ _ _ _ _ (λ e. omega arith) (c .before .before .write .ensures)
+returns-2 c = wrote-as (word-some _ (λ e. omega arith)) (c .before .before .write .ensures)
 
 pub write-bytes-spec : {M : Type 1} → statement M
 write-bytes-spec =
     tie.close
     (tie.spec
-    slice-aggregate-write-word
-    write-word-requires
-    same-length
-    returns
-    write-requires
-    same-length-2
-    returns-2)
+    (search needs) (search needs) (search needs) returns
+    (search needs) (search needs) returns-2)

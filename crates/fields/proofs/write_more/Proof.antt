@@ -15,30 +15,6 @@ abbrev μ-loop : tie.MeasureT-loop
 loop-holds : tie.Need-loop-holds Inv-loop μ-loop
 loop-holds c = listing-first _ _ _
 
-slice-aggregate-write-word : tie.Need-slice-aggregate-write-word Inv-loop μ-loop
-slice-aggregate-write-word c = search needs
-
-write-word-requires : tie.Need-write-word-requires Inv-loop μ-loop
-write-word-requires c κs = search needs
-
-mul-wide : tie.Need-mul-wide Inv-loop μ-loop
-mul-wide c = search needs
-
-shared-slice-read-wide : tie.Need-shared-slice-read-wide Inv-loop μ-loop
-shared-slice-read-wide c = search needs
-
-wide-requires : tie.Need-wide-requires Inv-loop μ-loop
-wide-requires c κs = search needs
-
-write-number-requires : tie.Need-write-number-requires Inv-loop μ-loop
-write-number-requires c κs = search needs
-
-add-i : tie.Need-add-i Inv-loop μ-loop
-add-i c = search needs
-
-loop-less : tie.Need-loop-less Inv-loop μ-loop
-loop-less c = search needs
-
 loop-again : tie.Need-loop-again Inv-loop μ-loop
 loop-again c =
     let comma = c .before .before .before .before .before .before .before .before in
@@ -47,7 +23,6 @@ loop-again c =
     listing-next
     _ _ _ _ _ _
     (comma .before .before .before .before .loop .inv)
-    _ _ _ _
     (comma .before .before .before .loop-test .taken)
     (search needs)
     (comma .write-word .ensures)
@@ -63,17 +38,8 @@ pub write-more-spec : {M : Type 1} → statement M
 write-more-spec =
     tie.close
     (tie.spec
-    Inv-loop
-    μ-loop
-    loop-holds
-    slice-aggregate-write-word
-    write-word-requires
-    mul-wide
-    shared-slice-read-wide
-    wide-requires
-    write-number-requires
-    add-i
-    loop-less
-    loop-again
+    Inv-loop μ-loop loop-holds
+    (search needs) (search needs) (search needs) (search needs) (search needs) (search needs) (search needs)
+    (search needs) loop-again
     same-length
     returns)

@@ -1,6 +1,5 @@
 -- `ranking::fixed` meets its contract. Assumes nothing.
 use mathlib.Core.Path.{refl}
-use Rattle.ranking.specs.Ranks.{fixed-ranks}
 use Rattle.ranking.proofs.fixed.Statement.{statement}
 use Rattle.ranking.proofs.fixed.Tie as tie
 

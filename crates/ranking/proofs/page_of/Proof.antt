@@ -1,5 +1,4 @@
 -- `ranking::page_of` meets its contract. Assumes nothing.
-use Prim.Native.Nat.{_-_}
 use mathlib.Core.Path.{refl}
 use borrow.Author.Needs.{needs}
 use Rattle.ranking.specs.Key.{page-of}

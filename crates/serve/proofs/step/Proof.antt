@@ -1,5 +1,4 @@
 -- `serve::step` meets its contract: a page that is in a slot is a hit there, any other goes to `swap`. Assumes nothing.
-use Prim.Native.Nat.{_-_}
 use mathlib.Core.Path.{sym, _∙_}
 use native.Mathlib.Omega.{arith}
 use borrow.Author.Needs.{needs}

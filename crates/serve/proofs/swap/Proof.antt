@@ -1,5 +1,4 @@
 -- `serve::swap` meets its contract, by the laws of Swaps. Assumes nothing.
-use Prim.Native.Nat.{_-_}
 use mathlib.Core.Path.{sym, _∙_}
 use native.Mathlib.Omega.{arith}
 use borrow.Author.Needs.{needs}

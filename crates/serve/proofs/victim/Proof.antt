@@ -1,5 +1,4 @@
 -- `serve::victim` meets its contract, by the cases of the search. Assumes nothing.
-use Prim.Native.Nat.{_-_}
 use mathlib.Core.Path.{sym, _∙_}
 use borrow.Author.Needs.{needs}
 use Rattle.serve.proofs.Victims.{found-at, found-none, search-small, page-found, page-none}

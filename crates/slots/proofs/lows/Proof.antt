@@ -1,7 +1,7 @@
 -- `slots::lows` meets its contract. The loop's invariant: `low` is the least key of the layers passed, and the table has their
 -- entries. Assumes nothing.
 use mathlib.Core.Path.{_≡_}
-use Prim.Native.Nat.{ℕ, suc, _+_, _-_, _≤_}
+use Prim.Native.Nat.{suc, _+_, _-_, _≤_}
 use borrow.Author.Needs.{needs}
 use Rattle.paging.specs.Sets.{table}
 use Rattle.paging.specs.Tables.{fill-none, fill-more, fill-all}

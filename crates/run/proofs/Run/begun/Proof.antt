@@ -1,5 +1,4 @@
 -- `Run::begun` meets its contract. Assumes nothing.
-use Prim.Native.Nat.{_-_}
 use borrow.Author.Needs.{needs}
 use Rattle.begin.specs.RefusalLaws.{begun-layers, begun-slots}
 use Rattle.run.specs.Start.{start-run}

@@ -1,5 +1,4 @@
 -- `Run::certain` meets its contract. Assumes nothing.
-use Prim.Native.Nat.{_-_}
 use mathlib.Core.Path.{_≡_, sym, _∙_}
 use borrow.Author.Needs.{needs}
 use Rattle.run.specs.Asking.{question-allowed, certain-refused, certain-told}

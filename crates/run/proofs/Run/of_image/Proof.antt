@@ -1,5 +1,4 @@
 -- `Run::of_image` meets its contract: the header has room for what is read. Assumes nothing.
-use Prim.Native.Nat.{_-_}
 use native.Mathlib.Omega.{arith}
 use borrow.Author.Needs.{needs}
 use Rattle.run.specs.Storing.{image-fits, image-long, image-run-is}

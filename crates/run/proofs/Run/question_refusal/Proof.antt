@@ -1,5 +1,4 @@
 -- `Run::question_refusal` meets its contract, by its tests. Assumes nothing.
-use Prim.Native.Nat.{_-_}
 use mathlib.Core.Path.{sym, _∙_}
 use borrow.Author.Needs.{needs}
 use Rattle.run.specs.Asking.{question-unsound, question-page, question-none}

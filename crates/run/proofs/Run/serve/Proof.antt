@@ -1,15 +1,13 @@
 -- `Run::serve` meets its contract: a sound run is ready for the step, whose answer is the rule's. Assumes nothing.
-use Prim.Native.Nat.{_-_}
 use mathlib.Core.Path.{_≡_, refl}
 use native.Mathlib.Omega.{arith}
 use lib.ListN.{length, getD}
 use borrow.Author.Needs.{needs}
-use Rattle.ranking.specs.Key.{key-at}
 use Rattle.slots.specs.Laws.{keys-length}
 use Rattle.counts.specs.Laws.{counts-room}
 use Rattle.run.specs.Request.{next-run}
 use Rattle.run.specs.SoundLaws.{run-counts}
-use Rattle.run.specs.Serving.{slots-hold, slots-byte, page-short, run-ready, run-ranked, step-taken}
+use Rattle.run.specs.Serving.{slots-hold, slots-byte, page-short, run-ready, step-taken}
 use Rattle.run.proofs.Run.serve.Statement.{statement}
 use Rattle.run.proofs.Run.serve.Tie as tie
 

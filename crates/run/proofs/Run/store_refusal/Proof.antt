@@ -1,5 +1,4 @@
 -- `Run::store_refusal` meets its contract, by its tests. Assumes nothing.
-use Prim.Native.Nat.{_-_}
 use mathlib.Core.Path.{sym, _∙_}
 use native.Mathlib.Omega.{arith}
 use borrow.Author.Needs.{needs}

@@ -1,5 +1,4 @@
 -- `Run::trial` meets its contract: it answers as the request does. Assumes nothing.
-use Prim.Native.Nat.{_-_}
 use borrow.Author.Needs.{needs}
 use Rattle.run.specs.Request.{tried}
 use Rattle.run.proofs.Run.trial.Statement.{statement}
