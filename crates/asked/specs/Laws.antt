@@ -61,6 +61,11 @@ unfolding described
 bad-run none d e g = refl
 bad-run (some r) d e g = absurd (clash (ap (λ (x : Described). x .good) e) g)
 
+-- ---- a number of a word
+
+pub number-read : {w word : List ℕ} {v u : Value} → w ≡ word → v ≡ number-in w → v ≡ u → number-in word ≡ u
+number-read e f g = rw (← e) (sym f ∙ g)
+
 -- ---- a run and a page
 
 module _ (line : List ℕ) where

@@ -3,8 +3,8 @@ use mathlib.Core.Option.{some}
 use mathlib.Core.Path.{_≡_, sym, ap, _∙_}
 use borrow.Author.Tests.{not-true, not-false}
 use Rattle.fields.specs.Fields.{word-of}
-use Rattle.asked.specs.Asked.{run-of, number-in}
-use Rattle.asked.specs.Laws.{good-run, bad-run, no-run-paged, no-number-paged, all-paged}
+use Rattle.asked.specs.Asked.{run-of}
+use Rattle.asked.specs.Laws.{good-run, bad-run, no-run-paged, no-number-paged, all-paged, number-read}
 use borrow.Author.Needs.{needs}
 use Rattle.asked.proofs.read_paged.Statement.{statement}
 use Rattle.asked.proofs.read_paged.Tie as tie
@@ -22,13 +22,13 @@ returns-2 : tie.Need-returns-2
 returns-2 c =
     let number = c .before .before .before in
     let run = number .before .before .before in
-    no-number-paged _ _ _ (run-read run) (ap number-in (sym (number .before .word2 .ensures)) ∙ sym (number .read-number .ensures) ∙ c .before .enum-told .given .1) (c .no-page2 .ensures)
+    no-number-paged _ _ _ (run-read run) (number-read (number .before .word2 .ensures) (number .read-number .ensures) (c .before .enum-told .given .1)) (c .no-page2 .ensures)
 
 returns-3 : tie.Need-returns-3
 returns-3 c =
     let number = c .before .before .before in
     let run = number .before .before .before in
-    all-paged _ _ _ (run-read run) (ap number-in (sym (number .before .word2 .ensures)) ∙ sym (number .read-number .ensures) ∙ c .before .number .given .1)
+    all-paged _ _ _ (run-read run) (number-read (number .before .word2 .ensures) (number .read-number .ensures) (c .before .number .given .1))
 
 pub read-paged-spec : {M : Type 1} → statement M
 read-paged-spec =
