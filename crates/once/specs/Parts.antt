@@ -252,27 +252,29 @@ image-write-once κ a x y s t p q = p ∙ sym q
 
 -- Where the keys stand for a ranking.
 pub certify-tables-once :
-    (κ : _) (a : _) (x y : _) (s t : _) (o : ℕ → ℕ → Bool) →
-    Keyed (a .1 .1 .1 .0) o (key-at (a .1 .0 .now)) →
+    (κ : _) (a : _) (x y : _) (s t : _) →
     certify-tables.Post κ a x s →
     certify-tables.Post κ a y t →
+    (o : ℕ → ℕ → Bool) →
+    Keyed (a .1 .1 .1 .0) o (key-at (a .1 .0 .now)) →
     x ≡ y
-certify-tables-once κ a x y s t o w p q = p o w ∙ sym (q o w)
+certify-tables-once κ a x y s t p q o w = p o w ∙ sym (q o w)
 
 -- ---- a step of a sound run
 
 -- An event, and what four lent tables hold, where the tables have a ranking before the request and after it.
 pub serve-step-once :
-    (κ : _) (a : _) (x y : _) (s t : _) (o : ℕ → ℕ → Bool) (key key′ : ℕ → ℕ) →
-    Ranked (a .1 .1 .1 .1 .0) (a .1 .1 .1 .1 .1 .0) (a .1 .1 .1 .1 .1 .1 .0) o key key′ (a .0 .now) (a .1 .0 .now) (a .1 .1 .1 .0 .now) (a .1 .1 .1 .1 .1 .1 .1 .0) →
+    (κ : _) (a : _) (x y : _) (s t : _) →
     serve-step.Post κ a x s →
     serve-step.Post κ a y t →
+    (o : ℕ → ℕ → Bool) (key key′ : ℕ → ℕ) →
+    Ranked (a .1 .1 .1 .1 .0) (a .1 .1 .1 .1 .1 .0) (a .1 .1 .1 .1 .1 .1 .0) o key key′ (a .0 .now) (a .1 .0 .now) (a .1 .1 .1 .0 .now) (a .1 .1 .1 .1 .1 .1 .1 .0) →
     (x ≡ y)
     × (s .0 .now ≡ t .0 .now)
     × (s .1 .0 .now ≡ t .1 .0 .now)
     × (s .1 .1 .0 .now ≡ t .1 .1 .0 .now)
     × (s .1 .1 .1 .0 .now ≡ t .1 .1 .1 .0 .now)
-serve-step-once κ a x y s t o key key′ w p q =
+serve-step-once κ a x y s t p q o key key′ w =
     let f = p o key key′ w in
     let g = q o key key′ w in
     let layers = f .layer-is ∙ sym (g .layer-is) in
