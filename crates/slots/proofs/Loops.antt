@@ -4,7 +4,7 @@ use mathlib.Core.List.{List}
 use mathlib.Core.Logic.{⊎-elim}
 use mathlib.Core.Option.{Option, none, some, Option·getD}
 use mathlib.Core.Path.{Path, _≡_, refl, sym, ap, _∙_}
-use Prim.Native.Nat.{ℕ, suc, _+_, min, _≤_, _<_}
+use Prim.Native.Nat.{ℕ, suc, _+_, min, _≤_, _<_, _-_, max}
 use native.Mathlib.Numerals.{add-one}
 use native.Mathlib.Omega.{arith}
 use lib.Dec.{eqb}
@@ -83,7 +83,7 @@ page-read h s l =
 unfoldable pub soonest : List ℕ → ℕ → ℕ → ℕ
 soonest h q s = Option·getD (seat h s q) 64
 
-pub soonest-none : (h : List ℕ) (q : ℕ) → 64 ≡ soonest h q 0
+soonest-none : (h : List ℕ) (q : ℕ) → 64 ≡ soonest h q 0
 unfolding soonest seat first
 soonest-none h q = refl
 
@@ -99,7 +99,7 @@ module _ (h : List ℕ) (q : ℕ) where
   more none s true l below = omega arith
   more none s false l below = omega arith
 
-  pub soonest-next :
+  soonest-next :
       (at s r entry : ℕ) → s < length h → s ≤ 64 → entry ≡ getD h s 0 → at ≡ soonest h q s → r ≡ min at (if entry =? q then s else 64) →
       r ≡ soonest h q (s + 1)
   unfolding soonest seat first
@@ -107,8 +107,26 @@ module _ (h : List ℕ) (q : ℕ) where
       rw (add-one s, er, ea, ee, entry-any h s 0 no-page i)
       (sym (more (first s test) s (test s) l (λ t e. first-some s test t e .below)))
 
+  -- counted from the end: what the code keeps is 64 less the slot, 0 where there is none
+  pub record Left (s left : ℕ) : Type 0 where
+    pub small : left ≤ 64
+    pub slot : 64 - left ≡ soonest h q s
+
+  pub left-none : Left 0 0
+  left-none = record { small = omega arith; slot = soonest-none h q }
+
+  turned : (left s r : ℕ) (b : Bool) → left ≤ 64 → s < 64 → r ≡ max left (if b then 64 - s else 0) →
+      (r ≤ 64) × (64 - r ≡ min (64 - left) (if b then s else 64))
+  turned left s r true a l e = (omega arith, omega arith)
+  turned left s r false a l e = (omega arith, omega arith)
+
+  pub left-next : (left s r entry : ℕ) → s < length h → s < 64 → entry ≡ getD h s 0 → Left s left → r ≡ max left (if entry =? q then 64 - s else 0) → Left (s + 1) r
+  left-next left s r entry i l ee w er =
+      let (small, slot) = turned left s r (entry =? q) (w .small) l er in
+      record { small = small; slot = soonest-next (64 - left) s (64 - r) entry i (omega arith) ee (w .slot) slot }
+
   -- all slots passed
-  pub soonest-here : (at k : ℕ) → k ≤ 64 → at ≡ soonest h q k → at < 64 → At at ≡ found (seat h k q)
+  soonest-here : (at k : ℕ) → k ≤ 64 → at ≡ soonest h q k → at < 64 → At at ≡ found (seat h k q)
   unfolding soonest
   soonest-here at k l e low = go (seat h k q) refl
     where
@@ -116,7 +134,7 @@ module _ (h : List ℕ) (q : ℕ) where
       go none f = let z : at ≡ 64 = e ∙ ap (λ (y : Option ℕ). Option·getD y 64) f in absurd (omega arith)
       go (some t) f = let z : at ≡ t = e ∙ ap (λ (y : Option ℕ). Option·getD y 64) f in rw (f, z)
 
-  pub soonest-nowhere : (at k : ℕ) → k ≤ 64 → at ≡ soonest h q k → 64 ≤ at → Nowhere ≡ found (seat h k q)
+  soonest-nowhere : (at k : ℕ) → k ≤ 64 → at ≡ soonest h q k → 64 ≤ at → Nowhere ≡ found (seat h k q)
   unfolding soonest seat
   soonest-nowhere at k l e high = go (first k test) refl
     where
@@ -125,6 +143,12 @@ module _ (h : List ℕ) (q : ℕ) where
       go (some t) f =
           let z : at ≡ t = e ∙ ap (λ (y : Option ℕ). Option·getD y 64) f in
           absurd (omega (arith, first-some k test t f .below))
+
+  pub left-here : (left k : ℕ) → k ≤ 64 → Left k left → 0 < left → At (64 - left) ≡ found (seat h k q)
+  left-here left k l w pos = soonest-here (64 - left) k l (w .slot) (omega arith)
+
+  pub left-nowhere : (left k : ℕ) → k ≤ 64 → Left k left → left ≤ 0 → Nowhere ≡ found (seat h k q)
+  left-nowhere left k l w zero-is = soonest-nowhere (64 - left) k l (w .slot) (omega arith)
 
 -- ---- one slot more
 

@@ -1,7 +1,7 @@
 // The slots of a run: where a page is, and the searches of a miss over the layers and keys of the pages in them. Assumes nothing.
 ghost use mathlib.Core.Path.{_≡_};
 ghost use mathlib.Core.Bool.{_&&_};
-ghost use Prim.Native.Nat.{ℕ, suc, _<_, _≤_, min};
+ghost use Prim.Native.Nat.{ℕ, suc, _-_, _<_, _≤_, min, max};
 ghost use lib.ListN.{getD};
 ghost use Rattle.paging.specs.Sets.{first, bit, if_then_else_, _=?_, _≤?_, table};
 ghost use Rattle.ranking.specs.Key.{no-key, key-at};
@@ -17,35 +17,37 @@ pub enum Found {
 // How many layers `reach` counts afresh.
 const AFRESH: u8 = 4;
 
-// Slot s, where it holds the page; else 64.
-fn slot_if(entry: u16, page: u16, s: u8) -> u8
-    ensures { λ r. ⌜ r ≡ (if entry =? page then s else 64) ⌝ }
+// How many slots of 64 there are from slot s on, where it holds the page; else 0.
+fn left_if(entry: u16, page: u16, s: u8) -> u8
+    requires { ⌜ s ≤ 64 ⌝ }
+    ensures { λ r. ⌜ r ≡ (if entry =? page then 64 - s else 0) ⌝ }
 {
-    if entry == page { s } else { 64 }
+    if entry == page { 64 - s } else { 0 }
 }
 
-// The lower of two slots.
-fn lower_slot(a: u8, b: u8) -> u8
-    ensures { λ r. ⌜ r ≡ min a b ⌝ }
+// The higher of two numbers.
+fn higher(a: u8, b: u8) -> u8
+    ensures { λ r. ⌜ r ≡ max a b ⌝ }
 {
-    if b < a { b } else { a }
+    if a < b { b } else { a }
 }
 
-// The slot of a page, the first that holds it. A flat pass over all slots is faster than one that stops where it is found.
+// The slot of a page, the first that holds it. A flat pass over all slots is faster than one that stops where it is found; counted
+// from the end, a slot that does not hold the page is 0, which a compiler makes of the comparison by itself.
 pub fn find(held: &[u16; 64], slots: usize, page: u16) -> Found
     requires { ⌜ slots ≤ 64 ⌝ }
     ensures { λ r. ⌜ r ≡ found (seat (now (held .entry)) slots page) ⌝ }
 {
     // A slice knows its length: a slot below 64 is an entry of the list.
     let entries: &[u16] = held;
-    let mut at: u8 = 64;
+    let mut left: u8 = 0;
     let mut s = 0;
     while s < slots {
-        at = lower_slot(at, slot_if(entries[s], page, s as u8));
+        left = higher(left, left_if(entries[s], page, s as u8));
         s += 1;
     }
-    if at < 64 {
-        return Found::At(at as usize);
+    if 0 < left {
+        return Found::At((64 - left) as usize);
     }
     Found::Nowhere
 }
