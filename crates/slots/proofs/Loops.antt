@@ -115,14 +115,16 @@ module _ (h : List ℕ) (q : ℕ) where
   pub left-none : Left 0 0
   left-none = record { small = omega arith; slot = soonest-none h q }
 
-  turned : (left s r : ℕ) (b : Bool) → left ≤ 64 → s < 64 → r ≡ max left (if b then 64 - s else 0) →
+  turned : (left s rest r : ℕ) (b : Bool) → left ≤ 64 → rest + s ≡ 64 → r ≡ max left (if b then rest else 0) →
       (r ≤ 64) × (64 - r ≡ min (64 - left) (if b then s else 64))
-  turned left s r true a l e = (omega arith, omega arith)
-  turned left s r false a l e = (omega arith, omega arith)
+  turned left s rest r true a l e = (omega arith, omega arith)
+  turned left s rest r false a l e = (omega arith, omega arith)
 
-  pub left-next : (left s r entry : ℕ) → s < length h → s < 64 → entry ≡ getD h s 0 → Left s left → r ≡ max left (if entry =? q then 64 - s else 0) → Left (s + 1) r
-  left-next left s r entry i l ee w er =
-      let (small, slot) = turned left s r (entry =? q) (w .small) l er in
+  pub left-next :
+      (left s rest r entry : ℕ) → s < length h → rest + s ≡ 64 → entry ≡ getD h s 0 → Left s left → r ≡ max left (if entry =? q then rest else 0) →
+      Left (s + 1) r
+  left-next left s rest r entry i l ee w er =
+      let (small, slot) = turned left s rest r (entry =? q) (w .small) l er in
       record { small = small; slot = soonest-next (64 - left) s (64 - r) entry i (omega arith) ee (w .slot) slot }
 
   -- all slots passed

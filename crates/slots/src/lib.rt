@@ -1,7 +1,7 @@
 // The slots of a run: where a page is, and the searches of a miss over the layers and keys of the pages in them. Assumes nothing.
 ghost use mathlib.Core.Path.{_≡_};
 ghost use mathlib.Core.Bool.{_&&_};
-ghost use Prim.Native.Nat.{ℕ, suc, _-_, _<_, _≤_, min, max};
+ghost use Prim.Native.Nat.{ℕ, suc, _<_, _≤_, min, max};
 ghost use lib.ListN.{getD};
 ghost use Rattle.paging.specs.Sets.{first, bit, if_then_else_, _=?_, _≤?_, table};
 ghost use Rattle.ranking.specs.Key.{no-key, key-at};
@@ -17,12 +17,11 @@ pub enum Found {
 // How many layers `reach` counts afresh.
 const AFRESH: u8 = 4;
 
-// How many slots of 64 there are from slot s on, where it holds the page; else 0.
-fn left_if(entry: u16, page: u16, s: u8) -> u8
-    requires { ⌜ s ≤ 64 ⌝ }
-    ensures { λ r. ⌜ r ≡ (if entry =? page then 64 - s else 0) ⌝ }
+// How many slots of 64 there are from a slot on, `rest`, where it holds the page; else 0.
+fn left_if(entry: u16, page: u16, rest: u8) -> u8
+    ensures { λ r. ⌜ r ≡ (if entry =? page then rest else 0) ⌝ }
 {
-    if entry == page { 64 - s } else { 0 }
+    if entry == page { rest } else { 0 }
 }
 
 // The higher of two numbers.
@@ -41,9 +40,11 @@ pub fn find(held: &[u16; 64], slots: usize, page: u16) -> Found
     // A slice knows its length: a slot below 64 is an entry of the list.
     let entries: &[u16] = held;
     let mut left: u8 = 0;
+    let mut rest: u8 = 64;
     let mut s = 0;
     while s < slots {
-        left = higher(left, left_if(entries[s], page, s as u8));
+        left = higher(left, left_if(entries[s], page, rest));
+        rest -= 1;
         s += 1;
     }
     if 0 < left {

@@ -1,6 +1,6 @@
 -- `slots::find` meets its contract. The loop's invariant: `left` tells the first of the slots passed that holds the page. Assumes nothing.
 use mathlib.Core.Path.{_≡_, refl, ap, _∙_}
-use Prim.Native.Nat.{ℕ, max, _≤_, _-_}
+use Prim.Native.Nat.{ℕ, max, _+_, _≤_, _-_}
 use native.Mathlib.Omega.{arith}
 use borrow.Author.Needs.{needs}
 use Rattle.slots.proofs.Loops.{Left, left-none, left-next, left-here, left-nowhere}
@@ -8,13 +8,13 @@ use Rattle.slots.proofs.find.Statement.{statement}
 use Rattle.slots.proofs.find.Tie as tie
 
 abbrev Inv-loop : tie.InvT-loop
-Inv-loop held slots page entries left₀ s₀ left s = (s ≤ slots) × Left held page s left
+Inv-loop held slots page entries left₀ rest₀ s₀ left rest s = (s ≤ slots) × Left held page s left × (rest + s ≡ 64)
 
 abbrev μ-loop : tie.MeasureT-loop
-μ-loop held slots page entries left₀ s₀ left s = slots - s
+μ-loop held slots page entries left₀ rest₀ s₀ left rest s = slots - s
 
 loop-holds : tie.Need-loop-holds Inv-loop μ-loop
-loop-holds c = (search needs, left-none _ _)
+loop-holds c = (search needs, left-none _ _, search needs)
 
 mul-left-if : tie.Need-mul-left-if Inv-loop μ-loop
 mul-left-if c = search needs
@@ -22,14 +22,14 @@ mul-left-if c = search needs
 shared-slice-read-left-if : tie.Need-shared-slice-read-left-if Inv-loop μ-loop
 shared-slice-read-left-if c = search needs
 
-cast-left-if : tie.Need-cast-left-if Inv-loop μ-loop
-cast-left-if c = search needs
-
 left-if-requires : tie.Need-left-if-requires Inv-loop μ-loop
 left-if-requires c κs = search needs
 
 higher-requires : tie.Need-higher-requires Inv-loop μ-loop
 higher-requires c κs = search needs
+
+sub-rest : tie.Need-sub-rest Inv-loop μ-loop
+sub-rest c = search needs
 
 add-s : tie.Need-add-s Inv-loop μ-loop
 add-s c = search needs
@@ -38,11 +38,12 @@ loop-less : tie.Need-loop-less Inv-loop μ-loop
 loop-less c = search needs
 
 loop-again : tie.Need-loop-again Inv-loop μ-loop
-loop-again c = (
-  search needs,
-  left-next _ _ _ _ _ _ (search needs) (search needs) refl (c .before .before .before .before .loop .inv .1)
-      (c .higher .ensures ∙ ap (λ (b : ℕ). max (c .before .before .before .before .loop .left) b) (c .before .left-if .ensures)),
-)
+loop-again c =
+    let i = c .before .before .before .before .loop .inv in (
+      search needs,
+      left-next _ _ _ _ _ _ _ (search needs) (i .2) refl (i .1) (c .higher .ensures ∙ ap (λ (b : ℕ). max (c .before .before .before .before .loop .left) b) (c .before .left-if .ensures)),
+      search needs,
+    )
 
 sub-t15 : tie.Need-sub-t15 Inv-loop μ-loop
 sub-t15 c = omega (arith, c .before .before .loop .inv .1 .small)
@@ -73,9 +74,9 @@ find-spec =
     loop-holds
     mul-left-if
     shared-slice-read-left-if
-    cast-left-if
     left-if-requires
     higher-requires
+    sub-rest
     add-s
     loop-less
     loop-again

@@ -4,9 +4,6 @@ use borrow.Author.Tests.{eq-eqb, ne-eqb}
 use Rattle.slots.proofs.left_if.Statement.{statement}
 use Rattle.slots.proofs.left_if.Tie as tie
 
-sub-result : tie.Need-sub-result
-sub-result c = search needs
-
 returns : tie.Need-returns
 returns c = rw (eq-eqb (c .before .args .entry) (c .before .args .page) (search needs))
 
@@ -14,4 +11,4 @@ returns-2 : tie.Need-returns-2
 returns-2 c = rw (ne-eqb (c .before .args .entry) (c .before .args .page) (search needs))
 
 pub left-if-spec : {M : Type 1} → statement M
-left-if-spec = tie.close (tie.spec sub-result returns returns-2)
+left-if-spec = tie.close (tie.spec returns returns-2)
