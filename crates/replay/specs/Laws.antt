@@ -11,10 +11,11 @@ use lib.Seq.{drop-drop, take-length}
 use Rattle.paging.specs.Sets.{bit}
 use Rattle.paging.specs.Layers.{next}
 use Rattle.paging.specs.Tests.{le-or-lt}
-use Rattle.paging.specs.Tables.{table-length, listed-same}
+use Rattle.paging.specs.Tables.{entry-any, fill-more, table-length, listed-same}
 use Rattle.words.specs.Words.{word-at, put}
 use Rattle.words.specs.Laws.{put-put, put-length, put-none}
 use Rattle.ranking.specs.Key.{key-of, key-at, page-keys, keys-entry}
+use Rattle.slots.specs.Slots.{no-page, keys-of}
 use Rattle.serve.specs.declared.Event.{Event}
 use Rattle.serve.specs.declared.Event.the-variants.{Refused}
 use Rattle.serve.specs.Step.{Ready, Steps}
@@ -96,6 +97,23 @@ module _ (N k : ℕ) (c : Counts) (layer priority held : List ℕ) (w : Sound (s
         turn-seated =
             let st = steps (ranks r) (key-at (page-keys priority)) (key-at (page-keys priority)) (run-ranked r p (page-keys priority) keys key w run-keys (seated-is .by-key) own) in
             record { by-near = st .near-is; by-key = st .keys-is; narrow = seated-is .narrow }
+
+-- ---- the keys by slots, one slot more
+
+module _ (priority h : List ℕ) (s : ℕ) (i : s < length h) (held-is : getD h s no-page < 1024) where
+  pub seat-page : getD h s 0 < 1024
+  seat-page = omega (arith, entry-any h s 0 no-page i)
+
+  pub seat-next :
+      (keys : List ℕ) (key : ℕ) →
+      s < 64 →
+      key ≡ key-of (getD priority (getD h s 0) 0) (getD h s 0) →
+      keys ≡ keys-of (key-at (page-keys priority)) h s →
+      set keys s key ≡ keys-of (key-at (page-keys priority)) h (s + 1)
+  unfolding keys-of
+  seat-next keys key l e k =
+      fill-more 0 64 s (λ t. key-at (page-keys priority) (getD h t no-page)) keys key l k
+      (e ∙ (sym (keys-entry priority (getD h s 0) seat-page) ∙ ap (key-at (page-keys priority)) (entry-any h s 0 no-page i)))
 
 -- ---- the tables keep their lengths
 

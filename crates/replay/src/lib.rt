@@ -1,8 +1,10 @@
 // A replay: requests of a sound run, one after the other, over arrays that are changed in place, and told as they come. No turn tests
 // soundness or copies the run. Assumes nothing.
 ghost use mathlib.Core.Path.{_≡_};
-ghost use Prim.Native.Nat.{_+_, _≤_, min};
-ghost use lib.ListN.{length};
+ghost use Prim.Native.Nat.{ℕ, _+_, _≤_, _<_, min};
+ghost use lib.ListN.{length, getD};
+ghost use Rattle.ranking.specs.Key.{Narrow, key-at, page-keys};
+ghost use Rattle.slots.specs.Slots.{no-page, keys-of};
 ghost use Rattle.run.specs.Sound.{Sound};
 ghost use Rattle.run.specs.Request.{requested};
 ghost use Rattle.run.specs.History.{run-after};
@@ -20,6 +22,26 @@ use serve::Event;
 pub struct Played {
     pub next: usize,
     pub counts: Counts,
+}
+
+// By slots, the key of the page in each, and that the priorities are as narrow as keys ask. (That this is one loop, and not one over
+// all pages and one over the slots, keeps the loops of `play` so few that the compiler makes one of them for each way of telling.)
+fn seat_keys<'a>(priority: &'a [u16; 1024], held: &'a [u16; 64], slots: usize) -> [Key; 64]
+    requires { ⌜ (slots ≤ 64) × ((s : ℕ) → s < slots → getD (now held) s no-page < 1024) ⌝ }
+    ensures table { λ r. ⌜ r ≡ keys-of (key-at (page-keys (now (priority .entry)))) (now (held .entry)) slots ⌝ }
+    ensures narrow { λ _. ⌜ (0 < slots → Narrow (now (priority .entry))) ⌝ }
+{
+    // Slices know their length, and that their entries are 16 bits wide.
+    let numbers: &[u16] = priority;
+    let entries: &[u16] = held;
+    let mut keys: [Key; 64] = [0; 64];
+    let mut s = 0;
+    while s < slots {
+        let page = entries[s];
+        keys[s] = ranking::key(numbers[page as usize], page);
+        s += 1;
+    }
+    keys
 }
 
 // One request of a page, any 16-bit number.
@@ -108,8 +130,7 @@ pub fn play<'a>(
     let mut layer = start.layer;
     let mut held = start.held;
     let mut near = slots::nears(&layer, &held, slots);
-    let page_keys = ranking::keys(&priority);
-    let mut keys = slots::keys(&page_keys, &held, slots);
+    let mut keys = seat_keys(&priority, &held, slots);
     let mut counts = start.counts;
     let mut next = at;
     let mut i = 0;

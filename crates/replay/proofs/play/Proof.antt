@@ -1,6 +1,6 @@
 -- `replay::play` meets its contract: what is left of the requests makes of the run in hand what all make of the start, and told behind
 -- what is told already makes the whole; the arrays and counts are the run in hand. Assumes nothing.
-use mathlib.Core.Path.{_≡_, ap, _∙_}
+use mathlib.Core.Path.{_≡_, ap}
 use Prim.Native.Nat.{_-_}
 use native.Mathlib.Omega.{arith}
 use borrow.Author.Needs.{needs}
@@ -42,11 +42,8 @@ cast-k c = search needs
 nears-requires : tie.Need-nears-requires Inv-loop μ-loop
 nears-requires c κs = slots-hold _ (c .before .before .before .before .before .before .before .before .before .pre .0)
 
-keys-requires : tie.Need-keys-requires Inv-loop μ-loop
-keys-requires c κs = search needs
-
-keys-requires-2 : tie.Need-keys-requires-2 Inv-loop μ-loop
-keys-requires-2 c κs = slots-hold _ (c .before .before .before .before .before .before .before .before .before .before .before .before .before .before .pre .0)
+seat-keys-requires : tie.Need-seat-keys-requires Inv-loop μ-loop
+seat-keys-requires c κs = slots-hold _ (c .before .before .before .before .before .before .before .before .before .before .before .before .pre .0)
 
 -- the tables of a run that is given have their types' lengths
 start-long : (s : tie.Start Inv-loop μ-loop) → Long (s .args .start)
@@ -54,11 +51,11 @@ start-long s = record { layers = search needs; slots = search needs }
 
 loop-holds : tie.Need-loop-holds Inv-loop μ-loop
 loop-holds c =
-    let s = c .before .before .before .before .before .before .before .before .before .before .before .before .before .before .before .before in
-    let from = c .before .before .before .before .before .before .before .before .before .before .before .before .before .within in
+    let s = c .before .before .before .before .before .before .before .before .before .before .before .before .before .before in
+    let from = c .before .before .before .before .before .before .before .before .before .before .before .within in
     let part = part-asked (s .args .file .now) (s .args .offset) (from .result) (s .args .requests) (from .ensures) in
-    let keys = c .before .before .before .before .keys .ensures in (
-      replaying-first _ _ _ _ _ _ (s .pre .0) (start-long s) (record { by-near = c .before .before .before .before .before .before .nears .ensures; by-key = c .before .keys2 .ensures ∙ rw (keys .0); narrow = keys .1 }),
+    let keys = c .before .seat-keys .ensures in (
+      replaying-first _ _ _ _ _ _ (s .pre .0) (start-long s) (record { by-near = c .before .before .before .before .nears .ensures; by-key = keys .0; narrow = keys .1 (s .pre .0 .slots .0) }),
       telling-first _ _ _ _ _ _ _ _ (rw part (s .pre .1)),
       slots-byte _ (s .pre .0),
       part,
@@ -79,7 +76,7 @@ tell-requires c κs =
     line-fits _ _ _ _ _ _ _ _ _ _ _ _ (i .1) _ _ (t .before .loop-test .taken) (t .request-at .ensures) (rw (i .2) at (c .before .ask .ensures .0))
 
 add-i : tie.Need-add-i Inv-loop μ-loop
-add-i c = omega (arith, c .before .before .before .before .before .before .before .before .before .before .before .before .loop-test .taken, c .before .before .before .before .before .before .before .before .before .before .before .before .before .before .before .before .before .before .before .before .before .before .before .before .before .before .before .before .before .before .fits .requests)
+add-i c = omega (arith, c .before .before .before .before .before .before .before .before .before .before .before .before .loop-test .taken, c .before .before .before .before .before .before .before .before .before .before .before .before .before .before .before .before .before .before .before .before .before .before .before .before .before .before .before .before .fits .requests)
 
 loop-less : tie.Need-loop-less Inv-loop μ-loop
 loop-less c = search needs
@@ -120,8 +117,7 @@ play-spec =
     part-words-end
     cast-k
     nears-requires
-    keys-requires
-    keys-requires-2
+    seat-keys-requires
     loop-holds
     request-at-requires
     ask-requires
