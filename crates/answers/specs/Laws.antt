@@ -16,11 +16,11 @@ use Rattle.run.specs.Sound.{sound}
 use Rattle.run.specs.SoundLaws.{sound_iff}
 use Rattle.run.specs.Stored.{image_of, stored, stored_bytes}
 use Rattle.run.specs.Storing.{store_unsound, store_none, length_is}
-use Rattle.hex.specs.declared.Count.{Count}
-use Rattle.hex.specs.declared.Count.TheVariants.{Of}
-use Rattle.hex.specs.declared.Count.TheVariants as counts
-use Rattle.hex.specs.Room.{Wrote}
-use Rattle.hex.specs.Laws.{wrote_then, wrote_as}
+use Rattle.hexadecimal.specs.declared.Count.{Count}
+use Rattle.hexadecimal.specs.declared.Count.TheVariants.{Of}
+use Rattle.hexadecimal.specs.declared.Count.TheVariants as counts
+use Rattle.hexadecimal.specs.Room.{Wrote}
+use Rattle.hexadecimal.specs.Laws.{wrote_then, wrote_as}
 use Rattle.fields.specs.declared.Value.{Value}
 use Rattle.fields.specs.declared.Value.TheVariants.{Is, Refused}
 use Rattle.fields.specs.Fields.{word_of, bytes_count, bytes_after, list_in, count_of, list_after, same_text}

@@ -1,5 +1,7 @@
 // The words of an answer, written at an offset of a lent buffer; each answers the offset behind it. Assumes nothing.
-ghost use Rattle.hex.specs.Room.{Wrote};
+#![tactic(auto)]
+
+ghost use Rattle.hexadecimal.specs.Room.{Wrote};
 ghost use Rattle.answers.specs.Answers.{bad_line, refusal_texts, number_texts, bytes_texts, record_texts, event_texts};
 
 use run::Run;

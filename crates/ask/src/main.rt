@@ -1,5 +1,7 @@
 // Answers the questions on standard input, one to a line, each with one line on standard output. Assumes nothing of what it
 // reads; that reading and writing go well is libc's to say.
+#![tactic(auto)]
+
 ghost use Rattle.std.specs.Prelude.{◌≡◌, ◌<◌, length};
 
 // A longer line is answered `bad line`.
@@ -9,7 +11,7 @@ const LONGEST: usize = 262144;
 const ROOM: usize = 263000;
 
 // How much is kept, bytes of the line that has begun and bytes of answers, and whether there may be more to read.
-#[derive(Drop)]
+#[derive(Clone, Copy)]
 struct Kept {
     held: usize,
     at: usize,

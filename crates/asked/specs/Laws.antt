@@ -8,9 +8,9 @@ use Rattle.image.specs.Layout.{pages_in, slots_in, image_refusal, marks_agree}
 use Rattle.run.specs.declared.Run.{Run}
 use Rattle.run.specs.Numbers.{blank_run}
 use Rattle.run.specs.Stored.{image_run}
-use Rattle.hex.specs.declared.Count.{Count}
-use Rattle.hex.specs.declared.Count.TheVariants.{Of}
-use Rattle.hex.specs.declared.Count.TheVariants as counts
+use Rattle.hexadecimal.specs.declared.Count.{Count}
+use Rattle.hexadecimal.specs.declared.Count.TheVariants.{Of}
+use Rattle.hexadecimal.specs.declared.Count.TheVariants as counts
 use Rattle.fields.specs.declared.Value.{Value}
 use Rattle.fields.specs.declared.Value.TheVariants.{Is, Refused}
 use Rattle.fields.specs.Fields.{word_of, bytes_in}

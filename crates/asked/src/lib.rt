@@ -1,22 +1,24 @@
 // What a line asks: its words, read into values. A word that does not fit makes the line no question. Assumes nothing.
+#![tactic(auto)]
+
 ghost use Rattle.std.specs.Prelude.{◌≡◌, length, replicate};
 ghost use Rattle.image.specs.Layout.{image_refusal};
 ghost use Rattle.fields.specs.Fields.{word_of, list_after};
 ghost use Rattle.asked.specs.Asked.{number_in, run_in, run_of, no_run, described, no_page, paged_of, start_of};
 
 use fields::Value;
-use hex::Count;
+use hexadecimal::Count;
 use run::Run;
 
 // A run that a record describes, sound or not.
-#[derive(Drop)]
+#[derive(Clone, Copy)]
 pub struct Described {
     pub good: bool,
     pub run: Run,
 }
 
 // A run and a page.
-#[derive(Drop)]
+#[derive(Clone, Copy)]
 pub struct Paged {
     pub good: bool,
     pub run: Run,
@@ -24,7 +26,7 @@ pub struct Paged {
 }
 
 // The numbers of pages and slots of a start, and how many pages its list has.
-#[derive(Drop)]
+#[derive(Clone, Copy)]
 pub struct StartWords {
     pub good: bool,
     pub pages: usize,

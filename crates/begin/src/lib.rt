@@ -1,4 +1,6 @@
 // The tests of a start list, and the tables of a started run. Assumes nothing.
+#![tactic(auto)]
+
 ghost use Rattle.std.specs.Prelude.{◌≡◌, true, ◌≤◌, length, slice_index_or};
 ghost use Rattle.paging.specs.Sets.{◌=?◌, any};
 ghost use Rattle.ranking.specs.Defaults.{default_priorities};

@@ -1,4 +1,6 @@
 // The entry for the board's C program: one request to the run in an image. Assumes nothing.
+#![tactic(auto)]
+
 ghost use Rattle.std.specs.Prelude.{◌≡◌};
 ghost use Rattle.board.specs.Board.{Small, Settles, packed, apart, image_after, board_answer, board_image};
 
@@ -6,7 +8,7 @@ use run::{Run, Served};
 use serve::Event;
 
 // The four numbers of a packed answer: the refusal, 1 on a miss, the slot, the victim.
-#[derive(Drop)]
+#[derive(Clone, Copy)]
 pub struct Parts {
     pub refusal: u32,
     pub miss: u32,

@@ -20,8 +20,8 @@ use Rattle.serve.specs.contracts.Event.{the_type}
 use Rattle.run.specs.declared.Run.{Run}
 use Rattle.run.specs.declared.Served.{Served}
 use Rattle.run.specs.declared.SelectionAnswer.{SelectionAnswer}
-use Rattle.hex.specs.Room.{Wrote}
-use Rattle.hex.specs.Laws.{none_wrote, wrote_then}
+use Rattle.hexadecimal.specs.Room.{Wrote}
+use Rattle.hexadecimal.specs.Laws.{none_wrote, wrote_then}
 use Rattle.fields.specs.Fields.{list_texts}
 use Rattle.fields.specs.Laws.{put_more}
 use Rattle.fields.specs.Reading.{first_put}

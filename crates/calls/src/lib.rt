@@ -1,14 +1,16 @@
 // The questions about a run: the words of a line are read, the public call is made, and its answer written at an offset; each
 // answers the offset behind it. Assumes nothing.
+#![tactic(auto)]
+
 ghost use Rattle.std.specs.Prelude.{◌≡◌, ◌+◌, ◌<◌, length, set};
 ghost use Rattle.paging.specs.Sets.{if◌then◌else◌, bit};
 ghost use Rattle.words.specs.Words.{put};
-ghost use Rattle.hex.specs.Room.{Wrote};
+ghost use Rattle.hexadecimal.specs.Room.{Wrote};
 ghost use Rattle.answers.specs.Answers.{number_texts, unless_refused};
 ghost use Rattle.calls.specs.Calls.{pages_of, started_texts, given_texts, prioritised_texts, served_texts};
 ghost use Rattle.calls.specs.Calls.{start_answer, request_answer, trial_answer, layer_answer, certain_answer, selection_answer, sound_answer};
 
-use hex::Count;
+use hexadecimal::Count;
 use run::{Run, Served, Started};
 use serve::Event;
 

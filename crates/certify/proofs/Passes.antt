@@ -1,5 +1,5 @@
 -- Tests that a loop or a row of early exits makes one by one: what holds after each, and what one that fails says. Assumes nothing.
-use mathlib.Core.Bool.{Bool, true, false, not, ◌&&◌, ◌||◌}
+use mathlib.Core.Bool.{Bool, true, false, ◌&&◌, ◌||◌}
 use mathlib.Core.List.{List}
 use mathlib.Core.Path.{◌≡◌, sym, ◌∙◌}
 use Prim.Native.Nat.{ℕ, ◌+◌, ◌≤◌}
@@ -7,7 +7,6 @@ use native.Mathlib.Numerals.{add-one}
 use native.Mathlib.Omega.{arith}
 use lib.Dec.{eqb, leb, ltb}
 use lib.ListN.{get_or}
-use borrow.Author.Tests.{not-true, not-false}
 use Rattle.paging.specs.Sets.{each}
 use Rattle.ranking.specs.Key.{key_at}
 
@@ -31,11 +30,11 @@ timely marks layer keys bars q =
 
 -- ---- parts of a test, made one by one
 
-pub refused : (r a : Bool) → r ≡ a → not r ≡ true → false ≡ a
-refused r a e h = sym (not-true r h) ∙ e
+pub refused : (r a : Bool) → r ≡ a → r ≡ false → false ≡ a
+refused r a e h = sym h ∙ e
 
-pub granted : (r a : Bool) → r ≡ a → not r ≡ false → true ≡ a
-granted r a e h = sym (not-false r h) ∙ e
+pub granted : (r a : Bool) → r ≡ a → r ≡ true → true ≡ a
+granted r a e h = sym h ∙ e
 
 pub stop_left : (a b : Bool) → false ≡ a → false ≡ a && b
 stop_left a b e = rw (sym e)
@@ -45,13 +44,13 @@ go_on r a b e h = rw (sym e) h
 
 -- three parts: r, s and t are what the code finds of a, b and c, and a part that fails ends the test
 module _ (a b c r : Bool) (er : r ≡ a) where
-  pub first_fails : not r ≡ true → false ≡ a && b && c
+  pub first_fails : r ≡ false → false ≡ a && b && c
   first_fails h = stop_left (a && b) c (stop_left a b (refused r a er h))
 
-  module _ (s : Bool) (passed : not r ≡ false) (es : s ≡ b) where
-    pub second_fails : not s ≡ true → false ≡ a && b && c
+  module _ (s : Bool) (passed : r ≡ true) (es : s ≡ b) where
+    pub second_fails : s ≡ false → false ≡ a && b && c
     second_fails h = stop_left (a && b) c (go_on false a b (granted r a er passed) (refused s b es h))
 
-    pub third_decides : (t : Bool) → not s ≡ false → t ≡ c → t ≡ a && b && c
+    pub third_decides : (t : Bool) → s ≡ true → t ≡ c → t ≡ a && b && c
     third_decides t h et =
         go_on t (a && b) c (go_on true a b (granted r a er passed) (granted s b es h)) et

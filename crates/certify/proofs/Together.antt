@@ -71,7 +71,7 @@ module _
     pub certificate_not :
         (r : Bool) →
         r ≡ each N (timely marks layer pages bars) →
-        not r ≡ true →
+        r ≡ false →
         false ≡ certificate N k layer (key_at pages) held
     unfolding certificate
     certificate_not r e h = stop_left _ _ (refused r _ (e ∙ late_is) h)
@@ -80,7 +80,7 @@ module _
         (counts lows : List ℕ) (t r : Bool) →
         Tabled near keys k counts lows →
         t ≡ each N (timely marks layer pages bars) →
-        not t ≡ false →
+        t ≡ true →
         r ≡ each (suc k) (roomy counts) →
         r ≡ certificate N k layer (key_at pages) held
     unfolding certificate room

@@ -1,5 +1,7 @@
 // The soundness test of a run's tables, in flat passes: O(N + k). That the cached set is the selection is seen by its
 // certificate, without building the selection. Assumes nothing.
+#![tactic(auto)]
+
 ghost use Rattle.std.specs.Prelude.{◌≡◌, List, Bool, true, false, ◌&&◌, ◌||◌, ℕ, suc, ◌<◌, ◌≤◌, length, replicate, slice_index_or};
 ghost use Rattle.paging.specs.Sets.{each, table, ◌=?◌, ◌<?◌, ◌≤?◌};
 ghost use Rattle.ranking.specs.Key.{Keyed, key_at};

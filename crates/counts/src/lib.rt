@@ -1,11 +1,13 @@
 // The counts of a run: their test, what a request adds to them, and the refusals that they give. Assumes nothing.
+#![tactic(auto)]
+
 ghost use Rattle.std.specs.Prelude.{◌≡◌, ◌+◌, ◌≤◌};
 ghost use Rattle.paging.specs.Sets.{◌=?◌, bit};
 ghost use Rattle.counts.specs.Counts.{most_served, no_counts, counts_fit, page_refusal, turned};
 
 use serve::Event;
 
-#[derive(Drop)]
+#[derive(Clone, Copy)]
 pub struct Counts {
     pub served: u32,
     pub hits: u32,
@@ -14,7 +16,7 @@ pub struct Counts {
 }
 
 // What a request comes to: the event, best with this request counted (0 beside a refusal), and the counts after it.
-#[derive(Drop)]
+#[derive(Clone, Copy)]
 pub struct Turn {
     pub event: Event,
     pub best: u32,

@@ -1,5 +1,7 @@
 // Bad input for the readers, the writers and the frames, through the public calls: for each, the number of its refusal. An
 // accepted call prints 0, and what it wrote as a sum over the buffer, so that a byte too many shows.
+#![tactic(auto)]
+
 use run::{Reading, Run};
 
 fn number(n: u64) {

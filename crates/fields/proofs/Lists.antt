@@ -14,10 +14,10 @@ use Rattle.paging.specs.Tests.{le_or_lt}
 use Rattle.words.specs.Words.{put}
 use Rattle.words.specs.Laws.{put_none}
 use Rattle.text.specs.Text.{decimal}
-use Rattle.hex.specs.declared.Count.{Count}
-use Rattle.hex.specs.declared.Count.TheVariants.{Of, Refused}
-use Rattle.hex.specs.Room.{Wrote}
-use Rattle.hex.specs.Laws.{none_wrote, wrote_then, wrote_as}
+use Rattle.hexadecimal.specs.declared.Count.{Count}
+use Rattle.hexadecimal.specs.declared.Count.TheVariants.{Of, Refused}
+use Rattle.hexadecimal.specs.Room.{Wrote}
+use Rattle.hexadecimal.specs.Laws.{none_wrote, wrote_then, wrote_as}
 use Rattle.fields.specs.declared.Value.{Value}
 use Rattle.fields.specs.declared.Value.TheVariants as value
 use Rattle.fields.specs.Fields.{before, number_of, none_word, in_front, parts, number_then, numbers_of, list_in, count_of, list_after, more_texts, list_texts}

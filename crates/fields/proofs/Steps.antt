@@ -12,11 +12,11 @@ use Rattle.paging.specs.Sets.{◌≤?◌, ◌=?◌}
 use Rattle.words.specs.Words.{put}
 use Rattle.words.specs.Laws.{put_then}
 use Rattle.text.specs.Laws.{value_of}
-use Rattle.hex.specs.declared.Count.{Count}
-use Rattle.hex.specs.declared.Count.TheVariants.{Of}
-use Rattle.hex.specs.declared.Count.TheVariants as counts
-use Rattle.hex.specs.Hex.{digits, count_read, bytes_read}
-use Rattle.hex.specs.Laws.{set_put}
+use Rattle.hexadecimal.specs.declared.Count.{Count}
+use Rattle.hexadecimal.specs.declared.Count.TheVariants.{Of}
+use Rattle.hexadecimal.specs.declared.Count.TheVariants as counts
+use Rattle.hexadecimal.specs.Hex.{digits, count_read, bytes_read}
+use Rattle.hexadecimal.specs.Laws.{set_put}
 use Rattle.fields.specs.declared.Value.TheVariants.{Is, Refused}
 use Rattle.fields.specs.Fields.{before, word_of, separators, all_decimal, number_from, number_of, none_word, bytes_count, bytes_after, bytes_word}
 

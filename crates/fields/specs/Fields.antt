@@ -5,9 +5,9 @@ use Rattle.paging.specs.Sets.{◌=?◌, ◌≤?◌, if◌then◌else◌, bit}
 use Rattle.words.specs.Words.{put}
 use Rattle.text.specs.Text.{decimal}
 use Rattle.text.specs.Laws.{value_of}
-use Rattle.hex.specs.declared.Count.{Count}
-use Rattle.hex.specs.declared.Count.TheVariants.{Of, Refused}
-use Rattle.hex.specs.Hex.{digits, all_digits, bytes_of, count_read, bytes_read}
+use Rattle.hexadecimal.specs.declared.Count.{Count}
+use Rattle.hexadecimal.specs.declared.Count.TheVariants.{Of, Refused}
+use Rattle.hexadecimal.specs.Hex.{digits, all_digits, bytes_of, count_read, bytes_read}
 use Rattle.fields.specs.declared.Value.{Value}
 use Rattle.fields.specs.declared.Value.TheVariants as value
 

@@ -7,7 +7,7 @@ use Rattle.words.specs.Words.{put}
 use Rattle.words.specs.Laws.{put_put}
 use Rattle.text.specs.Text.{digits_to, decimal}
 use Rattle.text.specs.Laws.{value_of, value_decimal, decimal_some}
-use Rattle.hex.specs.Laws.{set_put}
+use Rattle.hexadecimal.specs.Laws.{set_put}
 use Rattle.fields.specs.declared.Value.{Value}
 use Rattle.fields.specs.declared.Value.TheVariants.{Is, Refused}
 use Rattle.fields.specs.Fields.{all_decimal, number_from, number_of}

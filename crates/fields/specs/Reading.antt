@@ -12,10 +12,10 @@ use Rattle.paging.specs.Sets.{◌=?◌, ◌≤?◌}
 use Rattle.paging.specs.Tests.{clash, and_left, and_right}
 use Rattle.words.specs.Words.{put}
 use Rattle.words.specs.Laws.{take_put}
-use Rattle.hex.specs.declared.Count.{Count}
-use Rattle.hex.specs.declared.Count.TheVariants.{Of, Refused}
-use Rattle.hex.specs.Hex.{all_digits, bytes_of, readable, count_read, bytes_read}
-use Rattle.hex.specs.Laws.{bytes_length}
+use Rattle.hexadecimal.specs.declared.Count.{Count}
+use Rattle.hexadecimal.specs.declared.Count.TheVariants.{Of, Refused}
+use Rattle.hexadecimal.specs.Hex.{all_digits, bytes_of, readable, count_read, bytes_read}
+use Rattle.hexadecimal.specs.Laws.{bytes_length}
 use Rattle.fields.specs.Fields.{none_word, bytes_count, bytes_after, bytes_in, parts, numbers_of, list_in, count_of, list_after, same_text}
 
 -- What a reader of a word into a buffer has to do with what the word stands for.

@@ -1,16 +1,18 @@
 // The words of a line, read and written: numbers, lists of numbers, bytes in hexadecimal. Assumes nothing.
+#![tactic(auto)]
+
 ghost use Rattle.std.specs.Prelude.{[], ◌∷◌, ◌≡◌, suc, ◌+◌, ◌-◌, ◌≤◌, length, take, drop};
 ghost use Rattle.words.specs.Words.{put};
-ghost use Rattle.hex.specs.Room.{Wrote};
+ghost use Rattle.hexadecimal.specs.Room.{Wrote};
 ghost use Rattle.text.specs.Text.{decimal};
 ghost use Rattle.fields.specs.Fields.{before, word_of, separators, number_of};
 ghost use Rattle.fields.specs.Fields.{none_word, bytes_count, bytes_after, bytes_word};
 ghost use Rattle.fields.specs.Fields.{list_in, count_of, list_after, list_texts, more_texts};
 
-use hex::Count;
+use hexadecimal::Count;
 
 // A number that a word stands for.
-#[derive(Drop)]
+#[derive(Clone, Copy)]
 pub enum Value {
     Is(u64),
     Refused,
@@ -169,7 +171,7 @@ pub fn bytes(word: &[u8], out: &mut [u8]) -> Count
     if word.len() == 0 {
         return Count::Refused;
     }
-    hex::read(word, out)
+    hexadecimal::read(word, out)
 }
 
 // Writes a word at an offset, and answers the offset behind it: the same, and nothing written, without room.
@@ -247,5 +249,5 @@ pub fn write_bytes(out: &mut [u8], at: usize, bytes: &[u8]) -> usize
     if bytes.len() == 0 {
         return write_word(out, at, b"-");
     }
-    hex::write(out, at, bytes)
+    hexadecimal::write(out, at, bytes)
 }

@@ -1,13 +1,15 @@
 // The questions about frames, files and images: the words of a line are read, the public call is made, and its answer written at
 // an offset; each answers the offset behind it. Assumes nothing.
+#![tactic(auto)]
+
 ghost use Rattle.std.specs.Prelude.{length};
-ghost use Rattle.hex.specs.Room.{Wrote};
+ghost use Rattle.hexadecimal.specs.Room.{Wrote};
 ghost use Rattle.files.specs.Files.{filled_texts, fill_texts, looked_texts, traced_texts, written_texts};
 ghost use Rattle.files.specs.Files.{given_texts, prioritised_texts, requested_texts, restored_texts, stored_texts, boarded_texts};
 ghost use Rattle.files.specs.Files.{fill_answer, look_answer, readtrace_answer, writetrace_answer, readimage_answer, writeimage_answer, board_answer};
 
 use fields::Value;
-use hex::Count;
+use hexadecimal::Count;
 use run::{Reading, Restored, Run};
 use trace::Traced;
 

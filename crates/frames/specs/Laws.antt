@@ -1,6 +1,7 @@
 -- The refusals of Fill and Look as the code finds them: first what both begin with, then the page's bytes, then its slot.
 -- Each law says what an answer of the code is. Assumes nothing.
 use Rattle.std.specs.Prelude.{Bool, true, false, List, [], ◌≡◌, ℕ, ◌+◌, ◌*◌, ◌-◌, ◌≤◌, ◌<◌, length, take, drop, nat_eq, nat_lt, slice_index_or}
+use Rattle.std.proofs.Math.Option
 use Rattle.std.proofs.Math.Option.{Option, none, some}
 use Rattle.std.proofs.Math.Path.{Path, refl}
 use Rattle.std.proofs.Common.{sym, ap, ◌∙◌, arith}
@@ -129,7 +130,7 @@ pub frame : (r : Run) (p size s : ℕ) → Begun r p size → At s ≡ place r p
 frame r p size s w e =
     let is : Path (Option ℕ) (seat r.held r.slots p) (some s) = found_at (seat r.held r.slots p) s e in
     let (l, h) = seat_some r.held r.slots p s is in
-    let at : slot_of r p ≡ s = ap (λ (x : Option ℕ). slice_index_or x 0) is in
+    let at : slot_of r p ≡ s = ap (λ (x : Option ℕ). Option.get_or x 0) is in
     rw at at (frame_of r p size w (seated_in r.held r.slots p s l h))
 
 -- ---- what comes after it: 11, which Look cannot meet, and 12

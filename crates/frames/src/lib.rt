@@ -1,4 +1,6 @@
 // Filling a slot's frame, and looking at it. The run is not changed. Assumes nothing.
+#![tactic(auto)]
+
 ghost use Rattle.std.specs.Prelude.{◌≡◌, ◌≤◌, ◌<◌, length};
 ghost use Rattle.words.specs.Words.{put};
 ghost use Rattle.slots.specs.Slots.{seat, found};

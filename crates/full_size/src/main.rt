@@ -1,5 +1,7 @@
 // Plays at full size through the public calls and prints what comes of it: the limits, a trace of 30,000 requests at
 // N = 1024 and k = 64, the last requests of a run, trace A, and the calls on an unsound run.
+#![tactic(auto)]
+
 use run::{Run, Served};
 use serve::Event;
 

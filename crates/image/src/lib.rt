@@ -1,4 +1,6 @@
 // A stored run in bytes: the marks, the header's refusals, the tables of an image, and the writer. Assumes nothing.
+#![tactic(auto)]
+
 ghost use Rattle.std.specs.Prelude.{false, ◌++◌, ◌≡◌, ℕ, ◌+◌, ◌*◌, ◌%◌, ◌≤◌, ◌<◌, length, slice_index_or};
 ghost use Rattle.paging.specs.Sets.{◌≤?◌, listed, table};
 ghost use Rattle.words.specs.Words.{words, word_at, put};

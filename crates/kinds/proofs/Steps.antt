@@ -4,7 +4,7 @@ use mathlib.Core.Path.{◌≡◌}
 use Prim.Native.Nat.{ℕ, suc}
 use borrow.Author.Tests.{eq-eqb, ne_eqb}
 use Rattle.paging.specs.Sets.{◌=?◌, if◌then◌else◌}
-use Rattle.hex.specs.Room.{Wrote}
+use Rattle.hexadecimal.specs.Room.{Wrote}
 use Rattle.fields.specs.Fields.{word_of, separators}
 use Rattle.answers.specs.Answers.{Texts}
 use Rattle.kinds.specs.Kinds.{of_words, line_answer}

@@ -1,5 +1,7 @@
 // Which question a line is, by how many words it has and its first. A line that is none gets `bad line`. Assumes nothing.
-ghost use Rattle.hex.specs.Room.{Wrote};
+#![tactic(auto)]
+
+ghost use Rattle.hexadecimal.specs.Room.{Wrote};
 ghost use Rattle.kinds.specs.Kinds.{two_words, three_words, four_words, five_words, seven_words, line_answer};
 
 // The questions of two words.

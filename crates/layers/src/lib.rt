@@ -1,4 +1,6 @@
 // The layer table: how a request moves it, and the tests of a sound run that look at it. Assumes nothing.
+#![tactic(auto)]
+
 ghost use Rattle.std.specs.Prelude.{◌≡◌, ℕ, suc, ◌<◌, ◌≤◌, length, drop, slice_index_or};
 ghost use Rattle.paging.specs.Sets.{count, each, any, only, ◌=?◌, ◌≤?◌};
 ghost use Rattle.paging.specs.Layers.{in_layer};

@@ -6,7 +6,7 @@ use Rattle.ranking.specs.Key.{Keyed, key_at}
 use Rattle.serve.specs.Step.{Ranked}
 use Rattle.counts.specs.declared.Counts.{Counts}
 use Rattle.replay.specs.declared.Played.{Played}
-use Rattle.hex.specs.Laws.{wrote_once}
+use Rattle.hexadecimal.specs.Laws.{wrote_once}
 use Rattle.once.specs.Once.{Once, OnceLeft, Left}
 use Rattle.ranking.proofs.default_priority.Reads as ranking_default_priority
 use Rattle.ranking.proofs.key.Reads as ranking_key
@@ -67,8 +67,8 @@ use Rattle.text.proofs.line_length.Reads as text_line_length
 use Rattle.text.proofs.first_line_length.Reads as text_first_line_length
 use Rattle.text.proofs.last_line_length.Reads as text_last_line_length
 use Rattle.text.proofs.refused_length.Reads as text_refused_length
-use Rattle.hex.proofs.read.Reads as hex_read
-use Rattle.hex.proofs.write.Reads as hex_write
+use Rattle.hexadecimal.proofs.read.Reads as hex_read
+use Rattle.hexadecimal.proofs.write.Reads as hex_write
 use Rattle.fields.proofs.end_of.Reads as fields_end_of
 use Rattle.fields.proofs.words_in.Reads as fields_words_in
 use Rattle.fields.proofs.word.Reads as fields_word

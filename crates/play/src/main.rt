@@ -1,4 +1,5 @@
 // Reads a trace file from standard input and prints what becomes of its requests.
+#![tactic(auto)]
 
 // No trace file is as long as the buffer, so that what is longer gets the refusal of its header or of its length.
 fn main() {

@@ -1,4 +1,6 @@
 // What the trace program prints: the whole answer of a trace file, written into a lent buffer. Assumes nothing.
+#![tactic(auto)]
+
 ghost use Rattle.std.specs.Prelude.{◌≡◌, ◌+◌, ◌≤◌, length, replicate};
 ghost use Rattle.words.specs.Words.{put};
 ghost use Rattle.run.specs.Sound.{Sound};

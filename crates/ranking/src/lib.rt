@@ -1,5 +1,7 @@
 // The ranking of the pages: the default priorities, and one number for each page that orders the pages as the ranking does.
 // Assumes nothing.
+#![tactic(auto)]
+
 ghost use Rattle.std.specs.Prelude.{◌≡◌, ◌<◌};
 ghost use Rattle.ranking.specs.Key.{key_of, page_of, page_keys, Narrow};
 ghost use Rattle.ranking.specs.Ranks.{fixed_ranks};
@@ -11,7 +13,7 @@ pub type Key = u32;
 pub const NO_KEY: Key = 4294967295;
 
 // What ranks the pages of a run.
-#[derive(Drop)]
+#[derive(Clone, Copy)]
 pub struct Ranks {
     pub priority: [u16; 1024],
 }

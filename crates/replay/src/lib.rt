@@ -1,5 +1,7 @@
 // A replay: requests of a sound run, one after the other, over arrays that are changed in place, and told as they come. No turn tests
 // soundness or copies the run. Assumes nothing.
+#![tactic(auto)]
+
 ghost use Rattle.std.specs.Prelude.{◌≡◌, ℕ, ◌+◌, ◌≤◌, ◌<◌, min, length, slice_index_or};
 ghost use Rattle.ranking.specs.Key.{Narrow, key_at, page_keys};
 ghost use Rattle.slots.specs.Slots.{no_page, keys_of};
@@ -17,7 +19,7 @@ use run::Run;
 use serve::Event;
 
 // What requests come to: the offset behind what is told of them, and the counts after them.
-#[derive(Drop)]
+#[derive(Clone, Copy)]
 pub struct Played {
     pub next: usize,
     pub counts: Counts,

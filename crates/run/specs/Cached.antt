@@ -1,6 +1,7 @@
 -- Document 01, 'Layers and selection', of a run: its cached pages, their slots, the selection and the victim. Assumes nothing.
+use Rattle.std.proofs.Math.Option
 use Rattle.std.proofs.Math.Option.{Option}
-use Rattle.std.specs.Prelude.{ℕ, slice_index_or}
+use Rattle.std.specs.Prelude.{ℕ}
 use Rattle.paging.specs.Sets.{Pages}
 use Rattle.paging.specs.Selection.{chosen}
 use Rattle.paging.specs.Victim.{victim}
@@ -14,7 +15,7 @@ cached r = seated r.held r.slots
 
 -- The slot of a cached page.
 abbrev pub slot_of : Run → ℕ → ℕ
-slot_of r q = slice_index_or (seat r.held r.slots q) 0
+slot_of r q = Option.get_or (seat r.held r.slots q) 0
 
 -- The cached set is C_k.
 abbrev pub selection : Run → Pages

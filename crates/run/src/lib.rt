@@ -1,5 +1,7 @@
 // A run: what the board keeps, and every call on it that is not a file or a frame. What each call means is said in specs/.
 // Assumes nothing.
+#![tactic(auto)]
+
 ghost use Rattle.std.specs.Prelude.{◌≡◌, ◌<◌, length};
 ghost use Rattle.ranking.specs.Key.{Narrow, page_keys};
 ghost use Rattle.ranking.specs.Ranks.{fixed_ranks};
@@ -20,7 +22,7 @@ use counts::Counts;
 use ranking::{Key, Ranks};
 use serve::Event;
 
-#[derive(Drop)]
+#[derive(Clone, Copy)]
 pub struct Run {
     pub pages: usize,
     pub slots: usize,
@@ -31,52 +33,52 @@ pub struct Run {
 }
 
 // A request or a trial: the run, the event, and best with this request counted.
-#[derive(Drop)]
+#[derive(Clone, Copy)]
 pub struct Served {
     pub run: Run,
     pub event: Event,
     pub best: u32,
 }
 
-#[derive(Drop)]
+#[derive(Clone, Copy)]
 pub struct Started {
     pub run: Run,
     pub refusal: u8,
 }
 
-#[derive(Drop)]
+#[derive(Clone, Copy)]
 pub struct LayerAnswer {
     pub layer: u8,
     pub refusal: u8,
 }
 
-#[derive(Drop)]
+#[derive(Clone, Copy)]
 pub struct CertainAnswer {
     pub certain: bool,
     pub refusal: u8,
 }
 
-#[derive(Drop)]
+#[derive(Clone, Copy)]
 pub struct SelectionAnswer {
     pub pages: [bool; 1024],
     pub refusal: u8,
 }
 
 // What the image reader comes to.
-#[derive(Drop)]
+#[derive(Clone, Copy)]
 pub enum Reading {
     Accepted,
     Refused { number: u8 },
 }
 
-#[derive(Drop)]
+#[derive(Clone, Copy)]
 pub struct Restored {
     pub run: Run,
     pub event: Reading,
 }
 
 // What the image writer answers: how many bytes it wrote.
-#[derive(Drop)]
+#[derive(Clone, Copy)]
 pub struct Stored {
     pub length: usize,
     pub refusal: u8,

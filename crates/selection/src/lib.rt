@@ -1,5 +1,7 @@
 // The plain selection, set after set, over a copied layer table and the key of each page: arrays go in by value, and a new array of
 // marks comes back. Assumes nothing.
+#![tactic(auto)]
+
 ghost use Rattle.std.specs.Prelude.{◌&&◌, ◌≡◌, ◌<◌, ◌≤◌};
 ghost use Rattle.paging.specs.Sets.{count};
 ghost use Rattle.paging.specs.Selection.{highest, together, chosen};

@@ -1,5 +1,7 @@
 // One request of a sound run, over its arrays, which are lent and changed in place: O(N + k) and no soundness test inside. A
 // replay keeps the arrays and, by slots, the layers and keys of the pages in them. Assumes nothing.
+#![tactic(auto)]
+
 ghost use Rattle.std.specs.Prelude.{◌≡◌, false, ℕ, ◌<◌, ◌≤◌, length, set};
 ghost use Rattle.paging.specs.Moves.{bar};
 ghost use Rattle.layers.specs.Asked.{layer_at, asked, sunk};
@@ -10,7 +12,7 @@ use ranking::Key;
 use slots::Found;
 
 // What a request comes to.
-#[derive(Drop)]
+#[derive(Clone, Copy)]
 pub enum Event {
     Hit { slot: usize },
     Miss { slot: usize, victim: usize },

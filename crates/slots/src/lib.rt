@@ -1,4 +1,6 @@
 // The slots of a run: where a page is, and the searches of a miss over the layers and keys of the pages in them. Assumes nothing.
+#![tactic(auto)]
+
 ghost use Rattle.std.specs.Prelude.{◌≡◌, ◌&&◌, ℕ, suc, ◌<◌, ◌≤◌, min, max, slice_index_or};
 ghost use Rattle.paging.specs.Sets.{first, bit, if◌then◌else◌, ◌=?◌, ◌≤?◌, table};
 ghost use Rattle.ranking.specs.Key.{no_key, key_at};
@@ -7,7 +9,7 @@ ghost use Rattle.slots.specs.Slots.{no_page, seat, found, near_of, keys_of, near
 use ranking::Key;
 
 // A number that a search found, or that there is none.
-#[derive(Drop)]
+#[derive(Clone, Copy)]
 pub enum Found {
     At(usize),
     Nowhere,

@@ -1,4 +1,6 @@
 // The text of the trace program, written into lent buffers. Assumes nothing.
+#![tactic(auto)]
+
 ghost use Rattle.std.specs.Prelude.{◌++◌, ◌≡◌, ◌+◌, ◌≤◌, length};
 ghost use Rattle.words.specs.Words.{put};
 ghost use Rattle.text.specs.Text.{decimal, then_number, event_line, first_line, last_line, refused_line};

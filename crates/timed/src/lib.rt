@@ -1,5 +1,7 @@
 // What a benchmark times, exported for C and Rust: whole traces, by sound steps, by the checked request, and as text.
 // Assumes nothing.
+#![tactic(auto)]
+
 ghost use Rattle.std.specs.Prelude.{◌≡◌};
 ghost use Rattle.run.specs.History.{run_after};
 ghost use Rattle.trace.specs.Reading.{asked};

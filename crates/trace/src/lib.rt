@@ -1,4 +1,6 @@
 // Trace files: the reader, the requests one by one, and the writer. Assumes nothing.
+#![tactic(auto)]
+
 ghost use Rattle.std.specs.Prelude.{◌≡◌, ◌+◌, ◌*◌, ◌≤◌, length};
 ghost use Rattle.paging.specs.Sets.{table};
 ghost use Rattle.words.specs.Words.{words, word_at, put};
@@ -11,7 +13,7 @@ ghost use Rattle.trace.specs.Writing.{Fits};
 use run::Run;
 
 // What the reader answers: the started run, the number of requests, and where they begin.
-#[derive(Drop)]
+#[derive(Clone, Copy)]
 pub struct Traced {
     pub run: Run,
     pub requests: usize,
@@ -20,7 +22,7 @@ pub struct Traced {
 }
 
 // What the writer answers: how many bytes it wrote.
-#[derive(Drop)]
+#[derive(Clone, Copy)]
 pub struct Written {
     pub length: usize,
     pub refusal: u8,

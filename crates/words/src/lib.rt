@@ -1,4 +1,6 @@
 // 16- and 32-bit numbers in byte slices, low byte first: read and written at an offset, alone or in lists. Assumes nothing.
+#![tactic(auto)]
+
 ghost use Rattle.std.specs.Prelude.{◌≡◌, ◌+◌, ◌*◌, ◌≤◌, length};
 ghost use Rattle.words.specs.Words.{bytes, words, word_at, put};
 

@@ -1,0 +1,6 @@
+-- `asked::no_page` meets its contract. Assumes nothing.
+use borrow.Author.Rules.{rules}
+use Rattle.asked.proofs.no_page.Goals as goal
+
+pub returns : goal.returns
+returns c = rw c.blank.ensures

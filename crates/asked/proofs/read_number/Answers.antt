@@ -1,0 +1,8 @@
+-- `asked::read_number` meets its contract. Assumes nothing.
+use borrow.Author.Rules.{rules}
+use Rattle.asked.specs.Asked.{number_in}
+use Rattle.asked.proofs.read_number.Goals as goal
+
+pub returns : goal.returns
+unfolding number_in
+returns c = c.number.ensures

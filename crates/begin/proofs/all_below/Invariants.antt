@@ -1,0 +1,17 @@
+-- `begin::all_below` meets its contract. The loop's invariant: every entry passed is below `pages`. Assumes nothing.
+use mathlib.Core.Path.{sym}
+use Prim.Native.Nat.{ℕ, ◌-◌, ◌≤◌, ◌<◌}
+use native.Mathlib.Omega.{arith}
+use lib.ListN.{length, get_or}
+use borrow.Author.Count.{below_more}
+use borrow.Author.Rules.{rules}
+use Rattle.paging.specs.Tests.{isnt}
+use Rattle.begin.specs.Begin.{below}
+use Rattle.begin.specs.Laws.{below_true, below_in}
+use Rattle.begin.proofs.all_below.Given as goal
+
+abbrev pub invariant-loop-i : goal.invariant-loop-i
+invariant-loop-i l = (l.i ≤ length l.list) × ((t : ℕ) → t < l.i → get_or l.list t 0 < l.pages)
+
+abbrev pub decreases-loop-i : goal.decreases-loop-i
+decreases-loop-i l = length l.list - l.i

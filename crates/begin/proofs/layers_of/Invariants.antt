@@ -1,0 +1,14 @@
+-- `begin::layers_of` meets its contract: after i turns each entry is its page's place among the first i. Assumes nothing.
+use Prim.Native.Nat.{◌-◌, ◌≤◌}
+use native.Mathlib.Omega.{arith}
+use lib.ListN.{length}
+use borrow.Author.Rules.{rules}
+use Rattle.begin.specs.Laws.{below_true}
+use Rattle.begin.proofs.Places.{Placed, placed_none, placed_more, placed_all}
+use Rattle.begin.proofs.layers_of.Given as goal
+
+abbrev pub invariant-loop-i : goal.invariant-loop-i
+invariant-loop-i l = (l.i ≤ length l.list) × Placed l.list l.layer l.i
+
+abbrev pub decreases-loop-i : goal.decreases-loop-i
+decreases-loop-i l = length l.list - l.i

@@ -1,0 +1,8 @@
+-- `calls::answered` meets its contract, refused or not. Assumes nothing.
+use Rattle.calls.proofs.Steps.{refused_served, accepted_served}
+use borrow.Author.Rules.{rules}
+use Rattle.calls.proofs.answered.Goals as goal
+
+pub returns : goal.returns
+returns c =
+    accepted_served _ c.event-next.ensures c.in_default.keys2 c.then_record.ensures

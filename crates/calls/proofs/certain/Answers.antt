@@ -1,0 +1,10 @@
+-- `calls::certain` meets its contract, by what was read. Assumes nothing.
+use Rattle.answers.specs.Laws.{page_known, page_bad}
+use Rattle.calls.specs.Calls.{certain_answer, certain_texts}
+use borrow.Author.Rules.{rules}
+use Rattle.calls.proofs.certain.Goals as goal
+
+pub returns : goal.returns
+unfolding certain_answer certain_texts
+returns c =
+    page_known _ _ c.read_paged-paged.ensures c.if-not-paged.false (rw c.certain-answer.ensures at c.number_unless.ensures)

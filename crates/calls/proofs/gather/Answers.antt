@@ -1,0 +1,29 @@
+-- `calls::gather` meets its contract: the pages that are left, put behind those that are there, make the whole. Assumes nothing.
+use mathlib.Core.Path.{refl}
+use Prim.Native.Nat.{◌-◌, ◌≤◌}
+use native.Mathlib.Omega.{arith}
+use Rattle.calls.proofs.Steps.{Gathering, gathering_first, gathering_next, gathering_last}
+use borrow.Author.Rules.{rules}
+use Rattle.calls.proofs.gather.Goals as goal
+
+pub loop-q-init : goal.loop-q-init
+loop-q-init c = (gathering_first _ _, search rules)
+
+pub put_page-n-requires : goal.put_page-n-requires
+put_page-n-requires c =
+    let loop-test = c.loop-q-test in
+    omega (arith, c.loop-q.invariant.0.few, c.loop-q.invariant.0.size, c.requires.1, loop-test.true)
+
+pub loop-q-preserved : goal.loop-q-preserved
+loop-q-preserved c =
+    let loop-test = c.loop-q-test in
+    let put-page = c.put_page-n in
+    (gathering_next _ _ _ _ _ c.loop-q.invariant.0 _ _ _ (search rules) (omega (arith, c.loop-q.invariant.0.few, c.loop-q.invariant.0.size, c.requires.1, loop-test.true)) refl put-page.ensures, search rules)
+
+pub shape_of-list : goal.shape_of-list
+shape_of-list c =
+    c.loop-q.invariant.0.size
+
+pub returns : goal.returns
+returns c =
+    let all = gathering_last _ _ _ _ _ c.loop-q.invariant.0 (search rules) in record { count = all.0; numbers = all.1 }

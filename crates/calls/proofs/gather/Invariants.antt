@@ -1,0 +1,13 @@
+-- `calls::gather` meets its contract: the pages that are left, put behind those that are there, make the whole. Assumes nothing.
+use mathlib.Core.Path.{refl}
+use Prim.Native.Nat.{◌-◌, ◌≤◌}
+use native.Mathlib.Omega.{arith}
+use Rattle.calls.proofs.Steps.{Gathering, gathering_first, gathering_next, gathering_last}
+use borrow.Author.Rules.{rules}
+use Rattle.calls.proofs.gather.Given as goal
+
+abbrev pub invariant-loop-q : goal.invariant-loop-q
+invariant-loop-q l = Gathering l.pages l.initial.list l.list l.n l.q × (l.q ≤ 1024)
+
+abbrev pub decreases-loop-q : goal.decreases-loop-q
+decreases-loop-q l = 1024 - l.q

@@ -1,0 +1,14 @@
+-- `certify::has_room` meets its contract. The loop's invariant: `room` says whether there is room in each layer passed. Assumes
+-- nothing.
+use mathlib.Core.Path.{◌≡◌, refl}
+use Prim.Native.Nat.{suc, ◌+◌, ◌-◌, ◌≤◌}
+use borrow.Author.Rules.{rules}
+use Rattle.paging.specs.Sets.{each}
+use Rattle.certify.proofs.Passes.{roomy, each_more, each_all}
+use Rattle.certify.proofs.has_room.Given as goal
+
+abbrev pub invariant-loop-j : goal.invariant-loop-j
+invariant-loop-j l = (l.j ≤ l.slots + 1) × (l.room ≡ each l.j (roomy l.counts))
+
+abbrev pub decreases-loop-j : goal.decreases-loop-j
+decreases-loop-j l = suc l.slots - l.j

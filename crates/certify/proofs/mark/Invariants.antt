@@ -1,0 +1,15 @@
+-- `certify::mark` meets its contract. The loop's invariant: the slots passed hold different pages below N, and these are marked.
+-- Assumes nothing.
+use Prim.Native.Nat.{◌-◌, ◌≤◌}
+use mathlib.Core.Path.{refl}
+use native.Mathlib.Omega.{arith}
+use borrow.Author.Rules.{rules}
+use Rattle.paging.specs.Tests.{clash}
+use Rattle.certify.proofs.Marks.{Marked, marked_none, marked_more, no_seat, twice, seats_all, marks_all}
+use Rattle.certify.proofs.mark.Given as goal
+
+abbrev pub invariant-loop-s : goal.invariant-loop-s
+invariant-loop-s l = (l.s ≤ l.slots) × Marked l.pages l.held l.marks l.s
+
+abbrev pub decreases-loop-s : goal.decreases-loop-s
+decreases-loop-s l = l.slots - l.s

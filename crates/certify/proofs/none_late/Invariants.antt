@@ -1,0 +1,15 @@
+-- `certify::none_late` meets its contract. The loop's invariant: `all` says whether each page passed is in time. Assumes nothing.
+use Prim.Native.Nat.{◌-◌, ◌≤◌}
+use mathlib.Core.Path.{◌≡◌, refl, ◌∙◌}
+use native.Mathlib.Omega.{arith}
+use lib.ListN.{get_or}
+use borrow.Author.Rules.{rules}
+use Rattle.paging.specs.Sets.{each}
+use Rattle.certify.proofs.Passes.{each_more, each_all, timely}
+use Rattle.certify.proofs.none_late.Given as goal
+
+abbrev pub invariant-loop-q : goal.invariant-loop-q
+invariant-loop-q l = (l.q ≤ l.pages) × (l.all ≡ each l.q (timely l.marks l.layer l.keys l.bars))
+
+abbrev pub decreases-loop-q : goal.decreases-loop-q
+decreases-loop-q l = l.pages - l.q

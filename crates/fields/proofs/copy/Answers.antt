@@ -1,0 +1,20 @@
+-- `fields::copy` meets its contract. The loop's invariant: the first i bytes stand where they belong. Assumes nothing.
+use Prim.Native.Nat.{◌-◌, ◌≤◌}
+use mathlib.Core.Path.{◌≡◌, refl, sym}
+use lib.ListN.{length}
+use borrow.Author.Rules.{rules}
+use lib.ListN.{take, length-set}
+use Rattle.words.specs.Words.{put}
+use Rattle.words.specs.Laws.{put_none}
+use Rattle.fields.proofs.Steps.{copy_more, copy_all}
+use Rattle.fields.proofs.copy.Goals as goal
+
+pub loop-i-init : goal.loop-i-init
+loop-i-init c = (search rules, refl, sym (put_none _ _))
+
+pub loop-i-preserved : goal.loop-i-preserved
+loop-i-preserved c =
+    (search rules, simp length-set (search rules), copy_more _ _ _ _ _ (search rules) (search rules) (search rules) c.loop-i.invariant.2)
+
+pub returns : goal.returns
+returns c = copy_all _ _ _ c.loop-i.i _ (search rules) c.loop-i.invariant.2

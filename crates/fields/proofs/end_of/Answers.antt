@@ -1,0 +1,26 @@
+-- `fields::end_of` meets its contract. The loop's invariant: what is left has as many before its separator as the answer is off.
+-- Assumes nothing.
+use Prim.Native.Nat.{◌+◌, ◌-◌, ◌≤◌}
+use mathlib.Core.Path.{◌≡◌, refl}
+use native.Mathlib.Omega.{arith}
+use lib.ListN.{length}
+use borrow.Author.Rules.{rules}
+use lib.ListN.{drop}
+use Rattle.fields.specs.Fields.{before}
+use Rattle.fields.proofs.Steps.{before_here, before_more, before_end}
+use Rattle.fields.proofs.end_of.Goals as goal
+
+pub loop-i-init : goal.loop-i-init
+loop-i-init c = (search rules, search rules, refl)
+
+pub returns-then-line-i : goal.returns-then-line-i
+returns-then-line-i c =
+    record { place = omega (arith, before_here c.args.separator c.args.line.now c.loop-i.i (search rules) (search rules)); within = search rules }
+
+pub loop-i-preserved : goal.loop-i-preserved
+loop-i-preserved c =
+    (search rules, search rules, omega (arith, before_more c.args.separator c.args.line.now c.loop-i.i (search rules) (λ e. omega arith)))
+
+pub returns : goal.returns
+returns c =
+    record { place = omega (arith, before_end c.args.separator c.args.line.now c.loop-i.i (search rules)); within = search rules }

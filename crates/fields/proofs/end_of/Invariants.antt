@@ -1,0 +1,17 @@
+-- `fields::end_of` meets its contract. The loop's invariant: what is left has as many before its separator as the answer is off.
+-- Assumes nothing.
+use Prim.Native.Nat.{◌+◌, ◌-◌, ◌≤◌}
+use mathlib.Core.Path.{◌≡◌, refl}
+use native.Mathlib.Omega.{arith}
+use lib.ListN.{length}
+use borrow.Author.Rules.{rules}
+use lib.ListN.{drop}
+use Rattle.fields.specs.Fields.{before}
+use Rattle.fields.proofs.Steps.{before_here, before_more, before_end}
+use Rattle.fields.proofs.end_of.Given as goal
+
+abbrev pub invariant-loop-i : goal.invariant-loop-i
+invariant-loop-i l = (l.from ≤ l.i) × (l.i ≤ l.from + (length l.line - l.from)) × (l.from + before l.separator (drop l.from l.line) ≡ l.i + before l.separator (drop l.i l.line))
+
+abbrev pub decreases-loop-i : goal.decreases-loop-i
+decreases-loop-i l = length l.line - l.i

@@ -1,0 +1,26 @@
+-- `fields::start_of` meets its contract. The loop's invariant: what is left of the line has the word at what is left of its number.
+-- Assumes nothing.
+use Prim.Native.Nat.{◌≤◌}
+use mathlib.Core.Path.{◌≡◌, refl, ◌∙◌}
+use lib.ListN.{length}
+use borrow.Author.Rules.{rules}
+use lib.ListN.{drop}
+use Rattle.fields.specs.Fields.{word_of}
+use Rattle.fields.proofs.Steps.{word_next, word_past}
+use Rattle.fields.proofs.start_of.Goals as goal
+
+pub loop-left-init : goal.loop-left-init
+loop-left-init c = (search rules, refl)
+
+pub returns-then-line-end : goal.returns-then-line-end
+returns-then-line-end c =
+    record { place = word_past _ c.loop-left.from _ c.end_of-end.ensures.place c.loop-left.left (search rules) (search rules) ∙ c.loop-left.invariant.1; within = search rules }
+
+pub loop-left-preserved : goal.loop-left-preserved
+loop-left-preserved c =
+    (search rules, word_next _ c.loop-left.from _ c.end_of-end.ensures.place c.loop-left.left (search rules) ∙ c.loop-left.invariant.1)
+
+pub returns : goal.returns
+returns c =
+    let z : c.loop-left.left ≡ 0 = search rules in
+    record { place = rw z at c.loop-left.invariant.1; within = search rules }

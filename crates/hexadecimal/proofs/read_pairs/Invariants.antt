@@ -1,0 +1,17 @@
+-- `hexadecimal::read_pairs` meets its contract. The loop's invariant: the first i bytes stand at the start. Assumes nothing.
+use Prim.Native.Nat.{◌-◌, ◌≤◌}
+use mathlib.Core.Path.{◌≡◌, refl, sym}
+use lib.ListN.{length}
+use borrow.Author.Rules.{rules}
+use lib.ListN.{take, length-set}
+use Rattle.words.specs.Words.{put}
+use Rattle.words.specs.Laws.{put_none}
+use Rattle.hexadecimal.specs.Hex.{bytes_of}
+use Rattle.hexadecimal.proofs.Steps.{bytes_more, bytes_all}
+use Rattle.hexadecimal.proofs.read_pairs.Given as goal
+
+abbrev pub invariant-loop-i : goal.invariant-loop-i
+invariant-loop-i l = (l.i ≤ l.size) × (length l.out ≡ length l.initial.out) × (l.out ≡ put l.initial.out 0 (take l.i (bytes_of l.word)))
+
+abbrev pub decreases-loop-i : goal.decreases-loop-i
+decreases-loop-i l = l.size - l.i

@@ -1,0 +1,18 @@
+-- `hexadecimal::write_pairs` meets its contract. The loop's invariant: the digits of the first i bytes stand where they belong.
+-- Assumes nothing.
+use Prim.Native.Nat.{◌-◌, ◌≤◌}
+use mathlib.Core.Path.{◌≡◌, refl}
+use native.Mathlib.Omega.{arith}
+use lib.ListN.{length}
+use borrow.Author.Rules.{rules}
+use lib.ListN.{take, length-set}
+use Rattle.words.specs.Words.{put}
+use Rattle.hexadecimal.specs.Hex.{digits}
+use Rattle.hexadecimal.proofs.Steps.{pairs_first, pairs_more, pairs_all}
+use Rattle.hexadecimal.proofs.write_pairs.Given as goal
+
+abbrev pub invariant-loop-i : goal.invariant-loop-i
+invariant-loop-i l = (l.i ≤ length l.bytes) × (length l.out ≡ length l.initial.out) × (l.out ≡ put l.initial.out l.at (digits (take l.i l.bytes)))
+
+abbrev pub decreases-loop-i : goal.decreases-loop-i
+decreases-loop-i l = length l.bytes - l.i

@@ -1,0 +1,21 @@
+-- `image::priorities` meets its contract: after q turns the array is the table of the first q priorities. Assumes nothing.
+use Prim.Native.Nat.{◌+◌, ◌*◌, ◌-◌, ◌≤◌}
+use mathlib.Core.Path.{◌≡◌}
+use native.Mathlib.Omega.{arith}
+use borrow.Author.Rules.{rules}
+use Rattle.paging.specs.Sets.{table}
+use Rattle.paging.specs.Tables.{fill_none, fill_more, fill_all}
+use Rattle.words.specs.Words.{word_at}
+use Rattle.image.specs.Layout.{image_priorities}
+use Rattle.image.proofs.priorities.Goals as goal
+
+pub loop-q-init : goal.loop-q-init
+loop-q-init c = (search rules, fill_none 0 1024 _)
+
+pub loop-q-preserved : goal.loop-q-preserved
+loop-q-preserved c =
+    (search rules, fill_more _ _ _ _ _ _ (omega arith) c.loop-q.invariant.1 c.read_u16.ensures)
+
+pub returns : goal.returns
+unfolding image_priorities
+returns c = fill_all _ _ _ _ _ _ (omega arith) (omega arith) c.loop-q.invariant.1

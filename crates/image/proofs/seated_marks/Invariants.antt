@@ -1,0 +1,14 @@
+-- `image::seated_marks` meets its contract. The loop's invariant: the pages in the slots passed are marked. Assumes nothing.
+use Prim.Native.Nat.{◌-◌, ◌≤◌, ◌<◌}
+use native.Mathlib.Omega.{arith}
+use lib.ListN.{length}
+use borrow.Author.Rules.{rules}
+use mathlib.Core.Logic.{⊎_elim}
+use Rattle.image.proofs.Seats.{Marked, marked_none, marked_more, marked_past, marked_all}
+use Rattle.image.proofs.seated_marks.Given as goal
+
+abbrev pub invariant-loop-s : goal.invariant-loop-s
+invariant-loop-s l = (l.s ≤ l.slots) × Marked l.held l.marks l.s
+
+abbrev pub decreases-loop-s : goal.decreases-loop-s
+decreases-loop-s l = l.slots - l.s

@@ -1,0 +1,21 @@
+-- `image::slots` meets its contract: after s turns the array is the table of the first s slots. Assumes nothing.
+use Prim.Native.Nat.{◌+◌, ◌*◌, ◌-◌, ◌≤◌}
+use mathlib.Core.Path.{◌≡◌}
+use native.Mathlib.Omega.{arith}
+use borrow.Author.Rules.{rules}
+use Rattle.paging.specs.Sets.{table}
+use Rattle.paging.specs.Tables.{fill_none, fill_more, fill_all}
+use Rattle.words.specs.Words.{word_at}
+use Rattle.image.specs.Layout.{image_slots}
+use Rattle.image.proofs.slots.Goals as goal
+
+pub loop-s-init : goal.loop-s-init
+loop-s-init c = (search rules, fill_none 65535 64 _)
+
+pub loop-s-preserved : goal.loop-s-preserved
+loop-s-preserved c =
+    (search rules, fill_more _ _ _ _ _ _ (omega arith) c.loop-s.invariant.1 c.read_u16.ensures)
+
+pub returns : goal.returns
+unfolding image_slots
+returns c = fill_all _ _ _ _ _ _ (omega arith) (omega arith) c.loop-s.invariant.1

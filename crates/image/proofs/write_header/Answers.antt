@@ -1,0 +1,24 @@
+-- `image::write_header` meets its contract. The loop's invariant: the first i numbers stand where they belong, and the rest is as it was.
+-- Assumes nothing.
+use Prim.Native.Nat.{◌-◌, ◌≤◌}
+use mathlib.Core.Path.{◌≡◌, refl}
+use lib.ListN.{length, take}
+use borrow.Author.Rules.{rules}
+use Rattle.words.specs.Words.{words, put}
+use Rattle.words.proofs.Steps.{list_none, list_all}
+use Rattle.image.specs.Layout.{image_header}
+use Rattle.image.proofs.Stores.{number_more}
+use Rattle.image.proofs.write_header.Goals as goal
+
+pub loop-i-init : goal.loop-i-init
+loop-i-init c = (search rules, refl, list_none 4 _ 0)
+
+pub loop-i-preserved : goal.loop-i-preserved
+loop-i-preserved c =
+    (search rules, search rules, number_more _ _ _ _ _ (search rules) (search rules) c.loop-i.invariant.2 c.write_u32.ensures)
+
+pub returns : goal.returns
+unfolding image_header
+returns c =
+    let header = image_header c.args.pages c.args.slots c.args.served c.args.hits c.args.misses c.args.best in
+    list_all 4 _ 0 header c.loop-i.i _ (search rules) c.loop-i.invariant.2

@@ -1,0 +1,29 @@
+-- `image::write_marks` meets its contract. The loop's invariant: the first q marks stand where they belong, and the rest is as it was.
+-- Assumes nothing.
+use Prim.Native.Nat.{◌-◌, ◌≤◌}
+use mathlib.Core.Path.{◌≡◌, refl, ap, ◌∙◌}
+use native.Mathlib.Omega.{arith}
+use lib.ListN.{length, get_or, length-set}
+use borrow.Author.Rules.{rules}
+use Rattle.paging.specs.Sets.{listed}
+use Rattle.words.specs.Words.{put}
+use Rattle.slots.specs.Slots.{seated}
+use Rattle.image.specs.Layout.{mark_byte}
+use Rattle.image.proofs.Seats.{marked_at}
+use Rattle.image.proofs.Stores.{stored_none, stored_more, stored_all}
+use Rattle.image.proofs.write_marks.Goals as goal
+
+pub loop-q-init : goal.loop-q-init
+loop-q-init c = (search rules, refl, stored_none _ _ _)
+
+pub mark-requires : goal.mark-requires
+mark-requires c =
+    omega (arith, c.requires.3 c.loop-q.q (omega arith))
+
+pub loop-q-preserved : goal.loop-q-preserved
+loop-q-preserved c =
+    let stored = c.mark.ensures ∙ ap (mark_byte _) (marked_at _ _ c.seated_marks-marks.ensures c.loop-q.q (search rules)) in
+    (search rules, simp length-set (search rules), stored_more _ _ _ _ _ _ (search rules) (search rules) c.loop-q.invariant.2 stored)
+
+pub returns : goal.returns
+returns c = stored_all _ _ _ _ _ _ (search rules) (search rules) c.loop-q.invariant.2

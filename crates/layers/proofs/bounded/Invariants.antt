@@ -1,0 +1,14 @@
+-- `layers::bounded` meets its contract: `most` is at most k where each layer below q is. Assumes nothing.
+use mathlib.Core.Logic.{inl, inr, ⊎_elim}
+use mathlib.Core.Path.{◌≡◌}
+use Prim.Native.Nat.{◌-◌, ◌≤◌}
+use native.Mathlib.Omega.{arith}
+use borrow.Author.Rules.{rules}
+use Rattle.layers.proofs.Passes.{Most, most_none, most_step}
+use Rattle.layers.proofs.bounded.Given as goal
+
+abbrev pub invariant-loop-q : goal.invariant-loop-q
+invariant-loop-q l = (l.q ≤ l.pages) × Most l.layer l.slots l.q l.most
+
+abbrev pub decreases-loop-q : goal.decreases-loop-q
+decreases-loop-q l = l.pages - l.q

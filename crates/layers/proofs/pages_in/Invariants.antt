@@ -1,0 +1,14 @@
+-- `layers::pages_in` meets its contract: n counts the pages below q. Assumes nothing.
+use mathlib.Core.Logic.{inl, inr, ⊎_elim}
+use mathlib.Core.Path.{◌≡◌}
+use Prim.Native.Nat.{◌-◌, ◌≤◌}
+use native.Mathlib.Omega.{arith}
+use borrow.Author.Rules.{rules}
+use Rattle.layers.proofs.Passes.{Counted, counted_none, counted_step}
+use Rattle.layers.proofs.pages_in.Given as goal
+
+abbrev pub invariant-loop-q : goal.invariant-loop-q
+invariant-loop-q l = (l.q ≤ l.pages) × Counted l.layer l.j l.q l.n
+
+abbrev pub decreases-loop-q : goal.decreases-loop-q
+decreases-loop-q l = l.pages - l.q

@@ -1,0 +1,20 @@
+-- `layers::seen` meets its contract: the layers of the pages below q are marked. Assumes nothing.
+use mathlib.Core.Path.{◌≡◌}
+use Prim.Native.Nat.{◌-◌, ◌≤◌}
+use native.Mathlib.Omega.{arith}
+use borrow.Author.Rules.{rules}
+use Rattle.layers.specs.Asked.{layer_at}
+use Rattle.layers.specs.Seen.{seen_marks}
+use Rattle.layers.proofs.Tables.{seen_none, seen_step}
+use Rattle.layers.proofs.seen.Goals as goal
+
+pub loop-q-init : goal.loop-q-init
+loop-q-init c = (search rules, seen_none _)
+
+pub loop-q-preserved : goal.loop-q-preserved
+loop-q-preserved c = (search rules, seen_step _ _ _ _ c.wide-j.ensures.0 c.wide-j.ensures.1 c.loop-q.invariant.1)
+
+pub returns : goal.returns
+returns c =
+    let e : c.loop-q.q ≡ c.args.pages = omega arith in
+    rw e at c.loop-q.invariant.1

@@ -1,0 +1,14 @@
+-- `layers::sink` meets its contract: the entries below q are lowered. Assumes nothing.
+use mathlib.Core.Path.{◌≡◌}
+use Prim.Native.Nat.{◌-◌, ◌≤◌}
+use native.Mathlib.Omega.{arith}
+use borrow.Author.Rules.{rules}
+use Rattle.layers.specs.Asked.{sunk}
+use Rattle.layers.proofs.Tables.{sunk_none, sunk_step}
+use Rattle.layers.proofs.sink.Given as goal
+
+abbrev pub invariant-loop-q : goal.invariant-loop-q
+invariant-loop-q l = (l.q ≤ l.pages) × (l.layer ≡ sunk l.from l.q l.initial.layer)
+
+abbrev pub decreases-loop-q : goal.decreases-loop-q
+decreases-loop-q l = l.pages - l.q

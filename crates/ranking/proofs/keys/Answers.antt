@@ -1,0 +1,25 @@
+-- `ranking::keys` meets its contract: after q turns the array is the table of the first q keys, and a read has told that priorities
+-- are 16 bits wide. Assumes nothing.
+use mathlib.Core.Path.{◌≡◌}
+use Prim.Native.Nat.{◌-◌, ◌≤◌, ◌<◌}
+use native.Mathlib.Omega.{arith}
+use lib.ListN.{get_or}
+use borrow.Author.Rules.{rules}
+use Rattle.paging.specs.Sets.{table}
+use Rattle.paging.specs.Tables.{fill_none, fill_more, fill_all}
+use Rattle.ranking.specs.Key.{key_of, page_keys, Narrow}
+use Rattle.ranking.proofs.keys.Goals as goal
+
+pub loop-q-init : goal.loop-q-init
+loop-q-init c = (search rules, fill_none 0 1024 _, λ l. absurd (omega arith))
+
+pub loop-q-preserved : goal.loop-q-preserved
+loop-q-preserved c = (
+  search rules,
+  fill_more _ _ _ _ _ _ (search rules) c.loop-q.invariant.1 c.key.ensures,
+  λ l q. omega (arith, c.type_inv.numbers q),
+)
+
+pub returns : goal.returns
+unfolding page_keys
+returns c = record { table = fill_all _ _ _ _ _ _ (search rules) (search rules) c.loop-q.invariant.1; narrow = c.loop-q.invariant.2 (omega arith) }

@@ -1,0 +1,18 @@
+-- `ranking::keys` meets its contract: after q turns the array is the table of the first q keys, and a read has told that priorities
+-- are 16 bits wide. Assumes nothing.
+use mathlib.Core.Path.{◌≡◌}
+use Prim.Native.Nat.{◌-◌, ◌≤◌, ◌<◌}
+use native.Mathlib.Omega.{arith}
+use lib.ListN.{get_or}
+use borrow.Author.Rules.{rules}
+use Rattle.paging.specs.Sets.{table}
+use Rattle.paging.specs.Tables.{fill_none, fill_more, fill_all}
+use Rattle.ranking.specs.Key.{key_of, page_keys, Narrow}
+use Rattle.ranking.proofs.keys.Given as goal
+
+abbrev pub invariant-loop-q : goal.invariant-loop-q
+invariant-loop-q l =
+    (l.q ≤ 1024) × (l.keys ≡ table 1024 l.q 0 (λ p. key_of (get_or l.priority p 0) p)) × (0 < l.q → Narrow l.priority)
+
+abbrev pub decreases-loop-q : goal.decreases-loop-q
+decreases-loop-q l = 1024 - l.q

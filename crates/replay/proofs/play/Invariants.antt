@@ -1,0 +1,24 @@
+-- `replay::play` meets its contract: what is left of the requests makes of the run in hand what all make of the start, and told behind
+-- what is told already makes the whole; the arrays and counts are the run in hand. Assumes nothing.
+use mathlib.Core.Path.{◌≡◌, ap}
+use Prim.Native.Nat.{◌-◌}
+use native.Mathlib.Omega.{arith}
+use borrow.Author.Rules.{rules}
+use Rattle.run.specs.declared.Run.{Run}
+use Rattle.run.specs.Serving.{slots_hold, slots_byte}
+use Rattle.trace.specs.Reading.{asked}
+use Rattle.replay.specs.Replay.{state}
+use Rattle.replay.specs.Laws.{Long, Replaying, replaying_first, replaying_next, replaying_last, part_asked}
+use Rattle.replay.specs.Laws.{Telling, telling_first, line_fits, telling_next, telling_last}
+use Rattle.replay.proofs.play.Given as goal
+
+abbrev pub invariant-loop-i : goal.invariant-loop-i
+invariant-loop-i l =
+    Replaying (state l.pages l.slots l.initial.counts l.initial.layer l.priority l.initial.held) (asked l.words 0 l.requests) l.requests (state l.pages l.slots l.counts l.layer l.priority l.held) l.near l.keys l.i
+    × Telling (state l.pages l.slots l.initial.counts l.initial.layer l.priority l.initial.held) (asked l.words 0 l.requests) l.told l.written l.initial.out l.at l.out (state l.pages l.slots l.counts l.layer l.priority l.held) l.next l.i
+    × (l.k ≡ l.slots)
+    × (asked l.words 0 l.requests ≡ asked l.file l.offset l.requests)
+
+abbrev pub decreases-loop-i : goal.decreases-loop-i
+decreases-loop-i l =
+    l.requests - l.i

@@ -1,0 +1,19 @@
+-- `replay::seat_keys` meets its contract: the table is that of the slots passed, and a read has told that priorities are 16 bits wide.
+-- Assumes nothing.
+use mathlib.Core.Path.{◌≡◌, refl, ap, ◌∙◌}
+use Prim.Native.Nat.{◌-◌, ◌≤◌, ◌<◌}
+use native.Mathlib.Omega.{arith}
+use lib.ListN.{get_or}
+use borrow.Author.Rules.{rules}
+use Rattle.paging.specs.Sets.{listed, table}
+use Rattle.ranking.specs.Key.{Narrow, key_at, page_keys}
+use Rattle.slots.specs.Slots.{keys_of}
+use Rattle.replay.specs.Laws.{seat_page, seat_next}
+use Rattle.replay.proofs.seat_keys.Given as goal
+
+abbrev pub invariant-loop-s : goal.invariant-loop-s
+invariant-loop-s l =
+    (l.s ≤ l.slots) × (l.keys ≡ keys_of (key_at (page_keys l.priority)) l.held l.s) × (0 < l.s → Narrow l.priority)
+
+abbrev pub decreases-loop-s : goal.decreases-loop-s
+decreases-loop-s l = l.slots - l.s

@@ -1,0 +1,30 @@
+-- `selection::above_of` meets its contract. The loop's invariant: the pages below r are counted. Assumes nothing.
+use mathlib.Core.Bool.{◌&&◌}
+use mathlib.Core.Logic.{⊎_elim}
+use mathlib.Core.Path.{◌≡◌, refl, ◌∙◌}
+use Prim.Native.Nat.{◌-◌, ◌≤◌}
+use native.Mathlib.Omega.{arith}
+use borrow.Author.Rules.{rules}
+use borrow.Author.Tests.{lt-ltb, le-ltb}
+use Rattle.paging.specs.Sets.{count}
+use Rattle.paging.specs.Tests.{and_in}
+use Rattle.ranking.specs.Key.{by_key, key_at}
+use Rattle.selection.specs.Marks.{marked}
+use Rattle.selection.proofs.Loops.{count_in, count_out, count_done, and_left_out, and_right_out}
+use Rattle.selection.proofs.above_of.Goals as goal
+use Rattle.selection.proofs.above_of.Goals.{then-set-r+then-keys-q, then-set-r+else-keys-q, else-set-r}
+
+pub loop-r-init : goal.loop-r-init
+unfolding count
+loop-r-init c = (search rules, search rules, refl)
+
+pub loop-r-preserved : goal.loop-r-preserved
+loop-r-preserved c =
+    elim c.if-set-r.branch [
+      then-set-r+then-keys-q w ↦ (search rules, omega arith, w.n-is ∙ count_in _ _ _ c.loop-r.invariant.2 (and_in _ _ w.if-set-r.true (lt-ltb _ _ w.if-keys-q.true)))
+    | then-set-r+else-keys-q w ↦ (search rules, omega arith, w.n-is ∙ count_out _ _ _ c.loop-r.invariant.2 (and_right_out _ _ w.if-set-r.true (le-ltb _ _ w.if-keys-q.false)))
+    | else-set-r w ↦ (search rules, omega arith, w.n-is ∙ count_out _ _ _ c.loop-r.invariant.2 (and_left_out _ _ w.if-set-r.false))
+    ]
+
+pub returns : goal.returns
+returns c = count_done _ _ _ c.loop-r.invariant.2 _ (search rules) (search rules)

@@ -1,0 +1,19 @@
+-- `selection::selected` meets its contract. The loop's invariant: the set is C_j. Assumes nothing.
+use mathlib.Core.Path.{◌≡◌}
+use Prim.Native.Nat.{◌-◌, ◌≤◌}
+use borrow.Author.Rules.{rules}
+use Rattle.paging.specs.Selection.{chosen}
+use Rattle.ranking.specs.Key.{by_key, key_at}
+use Rattle.selection.specs.Marks.{marks, layers}
+use Rattle.selection.proofs.Loops.{chosen_none, chosen_turn, chosen_done}
+use Rattle.selection.proofs.selected.Goals as goal
+
+pub loop-j-init : goal.loop-j-init
+loop-j-init c = (search rules, chosen_none _ _ _ (search rules))
+
+pub loop-j-preserved : goal.loop-j-preserved
+loop-j-preserved c =
+    (search rules, chosen_turn _ _ _ _ _ c.loop-j.invariant.1 _ _ c.joined.ensures c.kept-set.ensures)
+
+pub returns : goal.returns
+returns c = chosen_done _ _ _ _ _ c.loop-j.invariant.1 _ (search rules) (search rules)

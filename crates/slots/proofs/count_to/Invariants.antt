@@ -1,0 +1,16 @@
+-- `slots::count_to` meets its contract. The loop's invariant: n is the count of the slots passed. Assumes nothing.
+use mathlib.Core.Path.{◌≡◌, refl, ap, ◌∙◌}
+use Prim.Native.Nat.{ℕ, ◌≤◌, ◌-◌}
+use native.Mathlib.Omega.{arith}
+use borrow.Author.Rules.{rules}
+use Rattle.paging.specs.Sets.{count}
+use Rattle.slots.specs.Slots.{near_to}
+use Rattle.slots.specs.Laws.{near_most}
+use Rattle.slots.proofs.Loops.{count_next, count_most}
+use Rattle.slots.proofs.count_to.Given as goal
+
+abbrev pub invariant-loop-s : goal.invariant-loop-s
+invariant-loop-s l = (l.s ≤ l.slots) × (l.n ≡ near_to l.near l.s l.j)
+
+abbrev pub decreases-loop-s : goal.decreases-loop-s
+decreases-loop-s l = l.slots - l.s

@@ -1,0 +1,14 @@
+-- `slots::lowest` meets its contract. The loop's invariant: `least` is the least key of the slots passed. Assumes nothing.
+use mathlib.Core.Path.{◌≡◌, refl, ap, ◌∙◌}
+use Prim.Native.Nat.{◌≤◌, ◌-◌}
+use native.Mathlib.Omega.{arith}
+use borrow.Author.Rules.{rules}
+use Rattle.slots.specs.Slots.{least_key}
+use Rattle.slots.proofs.Loops.{least_next}
+use Rattle.slots.proofs.lowest.Given as goal
+
+abbrev pub invariant-loop-s : goal.invariant-loop-s
+invariant-loop-s l = (l.s ≤ l.slots) × (l.least ≡ least_key l.near l.keys l.j l.s)
+
+abbrev pub decreases-loop-s : goal.decreases-loop-s
+decreases-loop-s l = l.slots - l.s

@@ -1,0 +1,21 @@
+-- `slots::lows` meets its contract. The loop's invariant: `low` is the least key of the layers passed, and the table has their
+-- entries. Assumes nothing.
+use mathlib.Core.Path.{◌≡◌}
+use Prim.Native.Nat.{suc, ◌+◌, ◌-◌, ◌≤◌}
+use borrow.Author.Rules.{rules}
+use Rattle.paging.specs.Sets.{table}
+use Rattle.paging.specs.Tables.{fill_none, fill_more, fill_all}
+use Rattle.slots.specs.Slots.{least_key, leasts_of}
+use Rattle.slots.proofs.Running.{least_before, least_none, least_passed, least_here}
+use Rattle.slots.proofs.lows.Goals as goal
+
+pub loop-j-init : goal.loop-j-init
+loop-j-init c = (search rules, least_none _ _ _, search rules, fill_none _ _ _)
+
+pub loop-j-preserved : goal.loop-j-preserved
+loop-j-preserved c =
+    let here = least_here _ _ _ _ _ _ _ (search rules) c.loop-j.invariant.1 c.loop-j.invariant.2 c.smaller-low.ensures in
+    (search rules, least_passed _ _ _ _ _ here, c.loop-j.invariant.2, fill_more _ _ _ _ _ _ (search rules) c.loop-j.invariant.3 here)
+
+pub returns : goal.returns
+returns c = fill_all _ _ _ _ _ _ (search rules) (search rules) c.loop-j.invariant.3

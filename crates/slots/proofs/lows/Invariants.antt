@@ -1,0 +1,16 @@
+-- `slots::lows` meets its contract. The loop's invariant: `low` is the least key of the layers passed, and the table has their
+-- entries. Assumes nothing.
+use mathlib.Core.Path.{◌≡◌}
+use Prim.Native.Nat.{suc, ◌+◌, ◌-◌, ◌≤◌}
+use borrow.Author.Rules.{rules}
+use Rattle.paging.specs.Sets.{table}
+use Rattle.paging.specs.Tables.{fill_none, fill_more, fill_all}
+use Rattle.slots.specs.Slots.{least_key, leasts_of}
+use Rattle.slots.proofs.Running.{least_before, least_none, least_passed, least_here}
+use Rattle.slots.proofs.lows.Given as goal
+
+abbrev pub invariant-loop-j : goal.invariant-loop-j
+invariant-loop-j l = (l.j ≤ l.k + 1) × (l.low ≡ least_before l.near l.keys l.k l.j) × (l.least ≡ leasts_of l.near l.keys l.k) × (l.lows ≡ table 65 l.j 0 (λ i. least_key l.near l.keys i l.k))
+
+abbrev pub decreases-loop-j : goal.decreases-loop-j
+decreases-loop-j l = suc l.k - l.j

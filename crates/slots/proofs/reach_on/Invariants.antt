@@ -1,0 +1,17 @@
+-- `slots::reach_on` meets its contract. The loop's invariant: no j passed is what is looked for, and n is the count up to j.
+-- Assumes nothing.
+use mathlib.Core.Path.{◌≡◌}
+use Prim.Native.Nat.{suc, ◌+◌, ◌≤◌, ◌-◌}
+use native.Mathlib.Omega.{arith}
+use borrow.Author.Count.{below_more}
+use borrow.Author.Rules.{rules}
+use Rattle.slots.specs.Slots.{near_to, tally_of}
+use Rattle.slots.specs.Laws.{near_most}
+use Rattle.slots.proofs.Loops.{Passed, found_here, found_none, full, full_before, full_here, full_not, sum_next}
+use Rattle.slots.proofs.reach_on.Given as goal
+
+abbrev pub invariant-loop-j : goal.invariant-loop-j
+invariant-loop-j l = (l.from ≤ l.j) × Passed (full l.near l.slots l.from) l.j × (l.n ≡ near_to l.near l.slots l.j) × (l.sums ≡ tally_of l.near l.slots)
+
+abbrev pub decreases-loop-j : goal.decreases-loop-j
+decreases-loop-j l = suc l.slots - l.j

@@ -1,0 +1,23 @@
+-- `text::digits` meets its contract. The loop's invariant: the digits counted and those of what is left are the number's.
+-- Assumes nothing.
+use mathlib.Core.Path.{◌≡◌}
+use Prim.Native.Nat.{◌+◌, ◌≤◌}
+use native.Mathlib.Omega.{arith}
+use borrow.Author.Rules.{rules}
+use lib.ListN.{length}
+use Rattle.text.specs.Text.{digits_to, decimal}
+use Rattle.text.specs.Laws.{decimal_short}
+use Rattle.text.proofs.Steps.{count_first, count_more, count_last}
+use Rattle.text.proofs.digits.Goals as goal
+
+pub loop-left-init : goal.loop-left-init
+loop-left-init c = (search rules, count_first _ (search rules))
+
+pub overflow_add-count : goal.overflow_add-count
+overflow_add-count c = omega (arith, decimal_short c.args.n)
+
+pub loop-left-preserved : goal.loop-left-preserved
+loop-left-preserved c = (search rules, omega (arith, count_more c.loop-left.left (search rules) (search rules)))
+
+pub returns : goal.returns
+returns c = omega (arith, count_last c.loop-left.left (search rules))

@@ -1,0 +1,17 @@
+-- `text::digits` meets its contract. The loop's invariant: the digits counted and those of what is left are the number's.
+-- Assumes nothing.
+use mathlib.Core.Path.{◌≡◌}
+use Prim.Native.Nat.{◌+◌, ◌≤◌}
+use native.Mathlib.Omega.{arith}
+use borrow.Author.Rules.{rules}
+use lib.ListN.{length}
+use Rattle.text.specs.Text.{digits_to, decimal}
+use Rattle.text.specs.Laws.{decimal_short}
+use Rattle.text.proofs.Steps.{count_first, count_more, count_last}
+use Rattle.text.proofs.digits.Given as goal
+
+abbrev pub invariant-loop-left : goal.invariant-loop-left
+invariant-loop-left l = (l.left ≤ l.n) × (l.count + length (digits_to 20 l.left) ≡ length (decimal l.n))
+
+abbrev pub decreases-loop-left : goal.decreases-loop-left
+decreases-loop-left l = l.left

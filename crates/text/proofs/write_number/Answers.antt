@@ -1,0 +1,25 @@
+-- `text::write_number` meets its contract. The loop's invariant: with the digits that are left put in, the slice is as it is to be.
+-- Assumes nothing.
+use mathlib.Core.Path.{◌≡◌, refl, sym, ◌∙◌}
+use Prim.Native.Nat.{◌-◌, ◌≤◌}
+use native.Mathlib.Omega.{arith}
+use borrow.Author.Rules.{rules}
+use lib.ListN.{length, length-set}
+use Rattle.words.specs.Words.{put}
+use Rattle.text.specs.Text.{decimal}
+use Rattle.text.specs.Laws.{decimal_short}
+use Rattle.text.proofs.Steps.{last_digits, number_first, number_more, number_last}
+use Rattle.text.proofs.write_number.Goals as goal
+
+pub overflow_add-end : goal.overflow_add-end
+overflow_add-end c = omega (arith, decimal_short c.args.n)
+
+pub loop-i-init : goal.loop-i-init
+loop-i-init c = (omega (arith, decimal_short c.args.n), refl, number_first _ _ _ _ (search rules))
+
+pub loop-i-preserved : goal.loop-i-preserved
+loop-i-preserved c =
+    (search rules, simp length-set (search rules), number_more _ _ _ _ (search rules) (search rules) ∙ c.loop-i.invariant.2)
+
+pub returns : goal.returns
+returns c = record { offset = search rules; text = sym (number_last _ _ _ _ (search rules)) ∙ c.loop-i.invariant.2 }

@@ -1,0 +1,20 @@
+-- `timed::checked_misses` meets its contract: what is left of the requests makes of the run in hand what all make of the start.
+-- Assumes nothing.
+use mathlib.Core.Path.{ap}
+use Prim.Native.Nat.{◌-◌}
+use borrow.Author.Rules.{rules}
+use Rattle.run.specs.declared.Run.{Run}
+use Rattle.trace.specs.Reading.{asked}
+use Rattle.timed.specs.Timed.{Going, going_first, going_next, going_last}
+use Rattle.timed.proofs.checked_misses.Goals as goal
+
+pub loop-i-init : goal.loop-i-init
+loop-i-init c = going_first _ _ _ _
+
+pub loop-i-preserved : goal.loop-i-preserved
+loop-i-preserved c =
+    going_next _ _ _ _ _ _ c.loop-i.invariant _ _ (search rules)
+    c.request_at-page.ensures c.request-served.ensures.answer
+
+pub returns : goal.returns
+returns c = ap (λ (r : Run). r.counts.misses) (going_last _ _ _ _ _ _ c.loop-i.invariant (search rules))

@@ -1,0 +1,19 @@
+-- `words::write_list` meets its contract. The loop's invariant: the first i numbers stand where they belong, and the rest is as it was.
+-- Assumes nothing.
+use mathlib.Core.Path.{◌≡◌, refl}
+use Prim.Native.Nat.{◌-◌, ◌≤◌}
+use borrow.Author.Rules.{rules}
+use lib.ListN.{length, take}
+use Rattle.words.specs.Words.{words, put}
+use Rattle.words.proofs.Steps.{list_none, list_more, list_all}
+use Rattle.words.proofs.write_list.Goals as goal
+
+pub loop-i-init : goal.loop-i-init
+loop-i-init c = (search rules, refl, list_none 2 _ _)
+
+pub loop-i-preserved : goal.loop-i-preserved
+loop-i-preserved c =
+    (search rules, search rules, list_more 2 _ _ _ _ _ _ (search rules) (search rules) c.loop-i.invariant.2 c.write_u16.ensures)
+
+pub returns : goal.returns
+returns c = list_all 2 _ _ _ _ _ c.loop-i-test.false c.loop-i.invariant.2
