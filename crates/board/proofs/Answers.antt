@@ -1,15 +1,11 @@
 -- What the board's calls leave, by the event of the request. Assumes nothing.
-use mathlib.Core.List.{List, [], ◌∷◌}
-use mathlib.Core.Logic.{⊎_elim}
+use mathlib.Core.List.{List}
 use mathlib.Core.Path.{◌≡◌, refl, ap, ◌∙◌}
 use Prim.Native.Nat.{ℕ, ◌≤◌, ◌<◌}
 use native.Mathlib.Omega.{arith}
-use denote.Enum.Declared.{tag_of}
-use types.Run.{OneOf}
 use lib.ListN.{length}
 use Rattle.serve.specs.declared.Event.{Event}
 use Rattle.serve.specs.declared.Event.TheVariants.{Hit, Miss, Refused}
-use Rattle.serve.specs.contracts.Event.{the_type}
 use Rattle.words.specs.Words.{put}
 use Rattle.image.specs.Layout.{image_length}
 use Rattle.run.specs.declared.Served.{Served}
@@ -25,11 +21,11 @@ module _ (b : List ℕ) (s : Served) where
   untouched e n h = rw h
 
   -- the code's third case is the refusal, so what is left of a request is a hit or a miss
-  pub written : (e : Event) → OneOf (0 ∷ 1 ∷ []) (tag_of the_type e) → put b 0 (image_of s.run) ≡ image_after b s e
+  pub written : (e : Event) → ((n : ℕ) → e ≡ Refused n → ⊥) → put b 0 (image_of s.run) ≡ image_after b s e
   unfolding image_after
   written (Hit slot) k = refl
   written (Miss slot victim) k = refl
-  written (Refused n) k = absurd (⊎_elim (λ z. omega arith) (λ z. omega arith) k)
+  written (Refused n) k = absurd (k n refl)
 
 -- what the writer asks for
 pub write_fits :
@@ -44,11 +40,11 @@ write_fits b s f =
     )
 
 -- what a hit or a miss asks for
-pub unrefused : (b : List ℕ) (s : Served) (e : Event) → Settles b s e → OneOf (0 ∷ 1 ∷ []) (tag_of the_type e) → Fits b s
+pub unrefused : (b : List ℕ) (s : Served) (e : Event) → Settles b s e → ((n : ℕ) → e ≡ Refused n → ⊥) → Fits b s
 unfolding Settles
 unrefused b s (Hit slot) f k = f
 unrefused b s (Miss slot victim) f k = f
-unrefused b s (Refused n) f k = absurd (⊎_elim (λ z. omega arith) (λ z. omega arith) k)
+unrefused b s (Refused n) f k = absurd (k n refl)
 
 -- ---- the answer, and the image
 

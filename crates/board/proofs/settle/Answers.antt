@@ -16,11 +16,11 @@ returns-in-Refused c =
 
 pub write-requires : goal.write-requires
 write-requires c =
-    let all = write_fits _ _ (unrefused _ _ _ c.requires c.in_default.keys2) in record { limits = all.0; narrow = all.1 }
+    let all = write_fits _ _ (unrefused _ _ _ c.requires c.in_default.not-Refused) in record { limits = all.0; narrow = all.1 }
 
 pub pack-requires-2 : goal.pack-requires-2
-pack-requires-2 c = (unrefused _ _ _ c.requires c.in_default.keys2).small
+pack-requires-2 c = (unrefused _ _ _ c.requires c.in_default.not-Refused).small
 
 pub returns : goal.returns
 unfolding image_of
-returns c = record { answer = c.pack-2.ensures; bytes = c.write.ensures ∙ written _ _ _ c.in_default.keys2 }
+returns c = record { answer = c.pack-2.ensures; bytes = c.write.ensures ∙ written _ _ _ c.in_default.not-Refused }

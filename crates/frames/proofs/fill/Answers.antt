@@ -23,7 +23,7 @@ returns-then-bytes-ne64 c =
 pub find_slot-place-requires : goal.find_slot-place-requires
 find_slot-place-requires c = ((passed (goal.at.find_slot-place-requires c).Else-refusal-ne0).run, (passed (goal.at.find_slot-place-requires c).Else-refusal-ne0).page)
 
--- with c.args slot
+-- with a slot
 there : (c : In-At) → Frame c.args.run c.args.page (length c.args.area.now) c.in-At.slot
 there c =
     frame _ _ _ _ (area_passed _ _ _ _ c.area_refusal-refusal.ensures (search rules)) c.in-At.ensures
@@ -34,8 +34,8 @@ overflow_mul-at c = omega (arith, there (goal.at.overflow_mul-at c).In-At)
 pub slice_bounds-copy_page-count : goal.slice_bounds-copy_page-count
 slice_bounds-copy_page-count c = omega (arith, there (goal.at.slice_bounds-copy_page-count c).In-At)
 
--- LOST part-copy-page-start slice-bounds-copy-page-start
--- part-copy-page-start c = omega (arith, there c.before)
+pub slice_bounds-copy_page-start : goal.slice_bounds-copy_page-start
+slice_bounds-copy_page-start c = omega (arith, there (goal.at.slice_bounds-copy_page-start c).In-At)
 
 pub copy_page-requires : goal.copy_page-requires
 copy_page-requires c = (simp (length-take, length-drop) (omega (arith, there (goal.at.copy_page-requires c).In-At)), search rules)

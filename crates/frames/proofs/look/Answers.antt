@@ -17,7 +17,7 @@ passed c = area_passed _ _ _ _ c.area_refusal.ensures (search rules)
 pub find_slot-place-requires : goal.find_slot-place-requires
 find_slot-place-requires c = ((passed (goal.at.find_slot-place-requires c).Else-area_refusal-ne0).run, (passed (goal.at.find_slot-place-requires c).Else-area_refusal-ne0).page)
 
--- with c.args slot
+-- with a slot
 there : (c : In-At) → Frame c.args.run c.args.page (length c.args.area.now) c.in-At.slot
 there c = frame _ _ _ _ (area_passed _ _ _ _ c.area_refusal.ensures (search rules)) c.in-At.ensures
 
@@ -27,8 +27,8 @@ overflow_mul-start c = omega (arith, there (goal.at.overflow_mul-start c).In-At)
 pub overflow_add-end : goal.overflow_add-end
 overflow_add-end c = omega (arith, there (goal.at.overflow_add-end c).In-At)
 
--- LOST part-result-end slice-bounds-result-end
--- part-result-end c = omega (arith, there c.before)
+pub slice_bounds-result-end-in-At : goal.slice_bounds-result-end-in-At
+slice_bounds-result-end-in-At c = omega (arith, there (goal.at.slice_bounds-result-end-in-At c).In-At)
 
 pub returns-in-At : goal.returns-in-At
 returns-in-At c = looked_frame _ _ _ _ (there (goal.at.returns-in-At c).In-At)

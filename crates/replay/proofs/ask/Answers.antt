@@ -30,10 +30,7 @@ key-key-requires c = page (goal.at.key-key-requires c).After-new_page-new
 
 pub step-event-requires : goal.step-event-requires
 step-event-requires c =
-    let small = turn_slots _ _ _ _ _ _ c.requires.sound.0 _ _ c.refusal-number.ensures (search rules) in (
-      turn_ready _ _ _ _ _ _ c.requires.sound.0 _ _ c.refusal-number.ensures (search rules) c.requires.sound.1 c.requires.sound.2,
-      (c.requires.nears.by_near, ap length c.requires.nears.by_key ∙ keys_length _ _ _ small),
-    )
+    let small = turn_slots _ _ _ _ _ _ c.requires.sound.0 _ _ c.refusal-number.ensures (search rules) in record { ready = turn_ready _ _ _ _ _ _ c.requires.sound.0 _ _ c.refusal-number.ensures (search rules) c.requires.sound.1 c.requires.sound.2; nears = (c.requires.nears.by_near, ap length c.requires.nears.by_key ∙ keys_length _ _ _ small) }
 
 pub counted-requires : goal.counted-requires
 counted-requires c =

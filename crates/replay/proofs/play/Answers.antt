@@ -16,8 +16,8 @@ use Rattle.replay.proofs.play.Goals.{Start}
 pub slice_bounds-words-count : goal.slice_bounds-words-count
 slice_bounds-words-count c = omega (arith, c.within-from.ensures)
 
--- LOST part-words-start slice-bounds-words-start
--- part-words-start c = omega (arith, c.within.ensures)
+pub slice_bounds-words-start : goal.slice_bounds-words-start
+slice_bounds-words-start c = omega (arith, c.within-from.ensures)
 
 pub nears-near-requires : goal.nears-near-requires
 nears-near-requires c = slots_hold _ c.requires.0
@@ -40,7 +40,7 @@ loop-i-init c =
 
 pub ask-turn-requires : goal.ask-turn-requires
 ask-turn-requires c =
-    rw c.loop-i.invariant.2 ((c.loop-i.invariant.0.sound_is, c.loop-i.invariant.0.long_is.layers, c.loop-i.invariant.0.long_is.slots), c.loop-i.invariant.0.nears)
+    rw c.loop-i.invariant.2 (record { sound = (c.loop-i.invariant.0.sound_is, c.loop-i.invariant.0.long_is.layers, c.loop-i.invariant.0.long_is.slots); nears = c.loop-i.invariant.0.nears })
 
 pub tell-next-requires : goal.tell-next-requires
 tell-next-requires c =
@@ -63,4 +63,4 @@ pub returns : goal.returns
 returns c =
     let last = replaying_last _ _ _ _ _ _ _ _ c.loop-i.invariant.0 c.loop-i-test.false in
     let all = telling_last _ _ _ _ _ _ _ _ _ _ _ _ c.loop-i.invariant.1 c.loop-i.invariant.0.reached c.loop-i-test.false in
-    let all = (rw c.loop-i.invariant.3 at (ap (λ (r : Run). r.counts) last), rw c.loop-i.invariant.3 at all) in record { counts = all.0; offset = all.1; text = all.2 }
+    record { counts = rw c.loop-i.invariant.3 at (ap (λ (r : Run). r.counts) last); offset = (rw c.loop-i.invariant.3 at all).0; text = (rw c.loop-i.invariant.3 at all).1 }
