@@ -6,8 +6,6 @@ use mathlib.Core.Logic.{⊎_elim}
 use mathlib.Core.Path.{◌≡◌, refl, sym, ◌∙◌}
 use Prim.Native.Nat.{ℕ, suc, ◌+◌, ◌≤◌, ◌<◌}
 use native.Mathlib.Omega.{arith}
-use denote.Enum.Declared.{tag_of}
-use types.Run.{OneOf}
 use borrow.Author.Tests.{eq-eqb, ne_eqb}
 use lib.ListN.{length, get_or, set, take, drop, length-set, drop_of_length-le}
 use lib.Seq.{drop-cons}
@@ -16,7 +14,6 @@ use Rattle.words.specs.Words.{put}
 use Rattle.words.specs.Laws.{put_none}
 use Rattle.serve.specs.declared.Event.{Event}
 use Rattle.serve.specs.declared.Event.TheVariants.{Hit, Miss, Refused}
-use Rattle.serve.specs.contracts.Event.{the_type}
 use Rattle.run.specs.declared.Run.{Run}
 use Rattle.run.specs.declared.Served.{Served}
 use Rattle.run.specs.declared.SelectionAnswer.{SelectionAnswer}
@@ -35,11 +32,11 @@ unfolding next_texts
 refused_next e n r h = rw h
 
 -- the third case is the refusal, so what is left is a hit or a miss
-served_next : (e : Event) (r : Run) → OneOf (0 ∷ 1 ∷ []) (tag_of the_type e) → next_texts e r ≡ record_texts r
+served_next : (e : Event) (r : Run) → ((n : ℕ) → e ≡ Refused n → ⊥) → next_texts e r ≡ record_texts r
 unfolding next_texts
 served_next (Hit slot) r k = refl
 served_next (Miss slot victim) r k = refl
-served_next (Refused n) r k = absurd (⊎_elim (λ z. omega arith) (λ z. omega arith) k)
+served_next (Refused n) r k = absurd (k n refl)
 
 module _ (x : Served) {s : List ℕ} {at mid : ℕ} {t : List ℕ} (first : Wrote s at (event_texts x.event x.best) mid t) where
   pub refused_served : {n : ℕ} → x.event ≡ Refused n → Wrote s at (served_texts x) mid t
@@ -48,7 +45,7 @@ module _ (x : Served) {s : List ℕ} {at mid : ℕ} {t : List ℕ} (first : Wrot
 
   pub accepted_served :
       {r : ℕ} {last : List ℕ} →
-      OneOf (0 ∷ 1 ∷ []) (tag_of the_type x.event) →
+      ((n : ℕ) → x.event ≡ Refused n → ⊥) →
       Wrote t mid (record_texts x.run) r last →
       Wrote s at (served_texts x) r last
   unfolding served_texts

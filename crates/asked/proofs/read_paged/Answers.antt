@@ -15,7 +15,7 @@ returns-then-not-good c =
 
 -- the record is that of a run
 run_read : (c : Else-not-good) → run_of (word_of 1 c.args.line.now) ≡ some c.read_run-described.result.run
-run_read c = ap run_of (sym c.word.ensures) ∙ good_run _ _ c.read_run-described.ensures (ap not c.if-not-good.false)
+run_read c = ap run_of (sym c.word.ensures) ∙ good_run _ _ c.read_run-described.ensures c.if-not-good.false
 
 pub returns-in_default : goal.returns-in_default
 returns-in_default c =

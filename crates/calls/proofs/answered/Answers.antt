@@ -5,4 +5,7 @@ use Rattle.calls.proofs.answered.Goals as goal
 
 pub returns : goal.returns
 returns c =
-    accepted_served _ c.event-next.ensures c.in_default.keys2 c.then_record.ensures
+    accepted_served _ c.event-next.ensures c.in_default.not-Refused c.then_record.ensures
+
+pub returns-in-Refused : goal.returns-in-Refused
+returns-in-Refused c = search refused_served

@@ -8,3 +8,7 @@ pub returns : goal.returns
 unfolding certain_answer certain_texts
 returns c =
     page_known _ _ c.read_paged-paged.ensures c.if-not-paged.false (rw c.certain-answer.ensures at c.number_unless.ensures)
+
+pub returns-then-not-paged : goal.returns-then-not-paged
+unfolding certain_answer
+returns-then-not-paged c = search page_bad

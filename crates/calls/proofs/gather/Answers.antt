@@ -17,8 +17,7 @@ put_page-n-requires c =
 pub loop-q-preserved : goal.loop-q-preserved
 loop-q-preserved c =
     let loop-test = c.loop-q-test in
-    let put-page = c.put_page-n in
-    (gathering_next _ _ _ _ _ c.loop-q.invariant.0 _ _ _ (search rules) (omega (arith, c.loop-q.invariant.0.few, c.loop-q.invariant.0.size, c.requires.1, loop-test.true)) refl put-page.ensures, search rules)
+    (gathering_next _ _ _ _ _ c.loop-q.invariant.0 _ _ _ (search rules) (omega (arith, c.loop-q.invariant.0.few, c.loop-q.invariant.0.size, c.requires.1, loop-test.true)) refl (c.put_page-n.ensures.count, c.put_page-n.ensures.numbers), search rules)
 
 pub shape_of-list : goal.shape_of-list
 shape_of-list c =

@@ -29,3 +29,7 @@ returns c =
     c.first_numbers.ensures
     c.write_word-next.ensures
     c.write_list.ensures))
+
+pub returns-then-not-described : goal.returns-then-not-described
+unfolding selection_answer
+returns-then-not-described c = search run_bad

@@ -9,3 +9,7 @@ unfolding sound_answer
 returns c =
     run_known c.word.ensures _ c.read_run-described.ensures c.if-not-described.false
     (rw c.is_sound.ensures at c.write_number.ensures)
+
+pub returns-then-not-described : goal.returns-then-not-described
+unfolding sound_answer
+returns-then-not-described c = search run_bad

@@ -8,3 +8,7 @@ pub returns-then-same : goal.returns-then-same
 unfolding prioritised_texts
 returns-then-same c =
     same_wrote c.same.ensures _ c.if-same.true (rw c.start_default.ensures at c.started.ensures)
+
+pub returns : goal.returns
+unfolding prioritised_texts
+returns c = search other_wrote

@@ -20,15 +20,13 @@ returns-in_default-fourth c =
     bytes_known c.word.ensures _ _ c.byte_room-area.ensures.size (c.bytes-third.ensures.count, c.bytes-third.ensures.bytes) c.in-Of.is refl
     (bytes_bad c.word-2.ensures _ _ c.byte_room-bytes.ensures.size (c.bytes-fourth.ensures.count, c.bytes-fourth.ensures.bytes) c.in_default-fourth.is c.bad-in_default-fourth.ensures)
 
--- LOST part-area-end slice-bounds-area-end
--- part-area-end c =
---     let long : length c.before.before.before.before.before.before.before.before.before.before.before.before.bytes.new.1.0 ≡ 131072 = search rules in
---     let third = c.before.before.before.before.before.before.before.before.before in
---     let read = third.before.before.before in
---     omega (arith, bytes_few _ _ (sym read.before.before.before.byte-room.ensures.1) read.bytes.ensures third.third.given.1)
+pub slice_bounds-area-end : goal.slice_bounds-area-end
+slice_bounds-area-end c =
+    let long : length c.bytes-third.new.out ≡ 131072 = search rules in
+    omega (arith, bytes_few _ _ (sym c.byte_room-area.ensures.size) (c.bytes-third.ensures.count, c.bytes-third.ensures.bytes) c.in-Of.is)
 
 pub returns : goal.returns
 unfolding fill_texts
 returns c =
-    bytes_known c.word.ensures _ _ c.byte_room-area.ensures.size (c.bytes-third.ensures.count, c.bytes-third.ensures.bytes) c.in-Of.is (part_is c.bytes-third.new.1.0 c.in-Of.size)
+    bytes_known c.word.ensures _ _ c.byte_room-area.ensures.size (c.bytes-third.ensures.count, c.bytes-third.ensures.bytes) c.in-Of.is (part_is c.bytes-third.new.out c.in-Of.size)
     (bytes_known c.word-2.ensures _ _ c.byte_room-bytes.ensures.size (c.bytes-fourth.ensures.count, c.bytes-fourth.ensures.bytes) c.in-Of-fourth.is c.first.ensures c.filled.ensures)

@@ -15,3 +15,7 @@ unfolding look_answer
 returns c =
     page_known _ _ c.read_paged-paged.ensures c.if-not-paged.false
     (bytes_known c.word.ensures _ _ c.byte_room-area.ensures.size (c.bytes-third.ensures.count, c.bytes-third.ensures.bytes) c.in-Of.is c.first.ensures c.looked.ensures)
+
+pub returns-then-not-paged : goal.returns-then-not-paged
+unfolding look_answer
+returns-then-not-paged c = search page_bad

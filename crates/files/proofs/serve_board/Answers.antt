@@ -21,16 +21,14 @@ returns-in_default-number c =
     bytes_known c.word.ensures _ _ c.byte_room-bytes.ensures.size (c.bytes-count.ensures.count, c.bytes-count.ensures.bytes) c.in-Of.is refl
     (number_bad c.word-2.ensures _ c.read_number-number.ensures c.in_default-number.is c.bad-in_default-number.ensures)
 
--- LOST part-bytes-end slice-bounds-bytes-end
--- part-bytes-end c =
---     let long : length c.before.before.before.before.before.before.before.before.before.bytes2.new.1.0 ≡ 131072 = search rules in
---     let counted = c.before.before.before.before.before.before in
---     let read = counted.before.before.before in
---     omega (arith, bytes_few _ _ (sym read.before.before.before.byte-room.ensures.1) read.bytes2.ensures counted.count.given.1)
+pub slice_bounds-bytes-end-2 : goal.slice_bounds-bytes-end-2
+slice_bounds-bytes-end-2 c =
+    let long : length c.bytes-count.new.out ≡ 131072 = search rules in
+    omega (arith, bytes_few _ _ (sym c.byte_room-bytes.ensures.size) (c.bytes-count.ensures.count, c.bytes-count.ensures.bytes) c.in-Of.is)
 
 pub returns : goal.returns
 unfolding board_answer
 returns c =
     let small = small_is _ _ c.in-Is.ensures in
-    bytes_known c.word.ensures _ _ c.byte_room-bytes.ensures.size (c.bytes-count.ensures.count, c.bytes-count.ensures.bytes) c.in-Of.is (part_is c.bytes-count.new.1.0 c.in-Of.size)
+    bytes_known c.word.ensures _ _ c.byte_room-bytes.ensures.size (c.bytes-count.ensures.count, c.bytes-count.ensures.bytes) c.in-Of.is (part_is c.bytes-count.new.out c.in-Of.size)
     (number_known c.word-2.ensures _ c.read_number-number.ensures c.in-Is.is (rw small at c.boarded.ensures))

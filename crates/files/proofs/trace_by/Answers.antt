@@ -9,3 +9,7 @@ unfolding prioritised_texts trace_texts
 returns-then-same c =
     same_wrote c.same.ensures _ c.if-same.true
     (rw (c.write_default-done.ensures.answer, c.write_default-done.ensures.buffer) at c.written.ensures)
+
+pub returns : goal.returns
+unfolding prioritised_texts
+returns c = search other_wrote

@@ -20,16 +20,14 @@ returns-in_default-sixth c =
     numbers_known c.word.ensures _ _ c.number_room-requests.ensures.size (c.list-fifth.ensures.count, c.list-fifth.ensures.numbers) c.in-Of.is refl
     (bytes_bad c.word-2.ensures _ _ c.byte_room-buffer.ensures.size (c.bytes-sixth.ensures.count, c.bytes-sixth.ensures.bytes) c.in_default-sixth.is c.bad-in_default-sixth.ensures)
 
--- LOST part-buffer-end slice-bounds-buffer-end
--- part-buffer-end c =
---     let long : length c.before.before.before.before.before.before.before.bytes.new.1.0 ≡ 131072 = search rules in
---     let sixth = c.before.before.before.before in
---     let read = sixth.before.before.before in
---     omega (arith, bytes_few _ _ (sym read.before.before.before.byte-room.ensures.1) read.bytes.ensures sixth.sixth.given.1)
+pub slice_bounds-buffer-end : goal.slice_bounds-buffer-end
+slice_bounds-buffer-end c =
+    let long : length c.bytes-sixth.new.out ≡ 131072 = search rules in
+    omega (arith, bytes_few _ _ (sym c.byte_room-buffer.ensures.size) (c.bytes-sixth.ensures.count, c.bytes-sixth.ensures.bytes) c.in-Of-sixth.is)
 
 pub returns : goal.returns
 unfolding requested_texts
 returns c =
     numbers_known c.word.ensures _ _ c.number_room-requests.ensures.size (c.list-fifth.ensures.count, c.list-fifth.ensures.numbers) c.in-Of.is c.first_numbers.ensures
-    (bytes_known c.word-2.ensures _ _ c.byte_room-buffer.ensures.size (c.bytes-sixth.ensures.count, c.bytes-sixth.ensures.bytes) c.in-Of-sixth.is (part_is c.bytes-sixth.new.1.0 c.in-Of-sixth.size)
+    (bytes_known c.word-2.ensures _ _ c.byte_room-buffer.ensures.size (c.bytes-sixth.ensures.count, c.bytes-sixth.ensures.bytes) c.in-Of-sixth.is (part_is c.bytes-sixth.new.out c.in-Of-sixth.size)
     (rw c.word-3.ensures at c.trace_by.ensures))

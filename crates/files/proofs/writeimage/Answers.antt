@@ -14,14 +14,17 @@ returns-in_default c =
     run_known c.word.ensures _ c.read_run-described.ensures c.if-not-described.false
     (bytes_bad c.word-2.ensures _ _ c.byte_room-buffer.ensures.size (c.bytes-count.ensures.count, c.bytes-count.ensures.bytes) c.in_default.is c.bad-in_default.ensures)
 
--- LOST part-buffer-end slice-bounds-buffer-end
--- part-buffer-end c =
---     let long : length c.before.before.before.before.bytes.new.1.0 ≡ 131072 = search rules in
---     let read = c.before.before.before.before in
---     omega (arith, bytes_few _ _ (sym read.before.before.before.byte-room.ensures.1) read.bytes.ensures c.before.count.given.1)
+pub slice_bounds-buffer-end : goal.slice_bounds-buffer-end
+slice_bounds-buffer-end c =
+    let long : length c.bytes-count.new.out ≡ 131072 = search rules in
+    omega (arith, bytes_few _ _ (sym c.byte_room-buffer.ensures.size) (c.bytes-count.ensures.count, c.bytes-count.ensures.bytes) c.in-Of.is)
 
 pub returns : goal.returns
 unfolding writeimage_answer
 returns c =
     run_known c.word.ensures _ c.read_run-described.ensures c.if-not-described.false
-    (bytes_known c.word-2.ensures _ _ c.byte_room-buffer.ensures.size (c.bytes-count.ensures.count, c.bytes-count.ensures.bytes) c.in-Of.is (part_is c.bytes-count.new.1.0 c.in-Of.size) c.stored.ensures)
+    (bytes_known c.word-2.ensures _ _ c.byte_room-buffer.ensures.size (c.bytes-count.ensures.count, c.bytes-count.ensures.bytes) c.in-Of.is (part_is c.bytes-count.new.out c.in-Of.size) c.stored.ensures)
+
+pub returns-then-not-described : goal.returns-then-not-described
+unfolding writeimage_answer
+returns-then-not-described c = search run_bad
