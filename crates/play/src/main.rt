@@ -1,26 +1,25 @@
 // Reads a trace file from standard input and prints what becomes of its requests.
 #![tactic(auto)]
 
-// No trace file is as long as the buffer, so that what is longer gets the refusal of its header or of its length.
-fn main() {
-    let mut file = io::large_buffer();
-    let got = io::read_full(0, &mut file);
-    let mut out = player::buffer();
-    let length = answer_of(&file, got, &mut out);
-    print(&out, length);
+use std::io;
+use std::io::Read;
+
+// No trace file is as long, so that what is longer gets the refusal of its header or of its length.
+const LONGEST: u64 = 65536;
+
+fn main(rt: HostRuntime) -> io::Result<()> {
+    let alloc = rt.alloc();
+    let mut file = Vec::new(alloc);
+    rt.stdin().take(LONGEST).read_to_end(&mut file)?;
+    let mut out = vec![in alloc; 0u8; player::ROOM]?;
+    let length = player::answer(&file, &mut out);
+    print(&rt, &out, length)
 }
 
-// The answer of the first bytes of a buffer.
-fn answer_of<'a>(file: &'a [u8], got: usize, out: &'a mut [u8]) -> usize {
-    if file.len() < got {
-        return 0;
-    }
-    player::answer(&file[..got], out)
-}
-
-// All of it in one piece. A reader that goes away ends the program.
-fn print(out: &[u8], length: usize) {
+// All of it in one piece.
+fn print(rt: &impl Print, out: &[u8], length: usize) -> io::Result<()> {
     if length <= out.len() {
-        io::write_all(1, &out[..length]);
+        rt.write_all(&out[..length])?;
     }
+    Ok(())
 }
