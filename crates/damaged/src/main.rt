@@ -3,23 +3,21 @@
 #![tactic(auto)]
 
 use run::{Reading, Run};
+use std::io;
 
-fn number(n: u64) {
-    io::print_decimal(1, n);
-    io::write_all(1, b" ");
+fn number(rt: &impl Print, n: u64) -> io::Result<()> {
+    print!(rt; "{n} ")
 }
 
-fn end_line() {
-    io::write_all(1, b"\n");
+fn end_line(rt: &impl Print) -> io::Result<()> {
+    println!(rt)
 }
 
 // A sum in which every byte of a buffer and its place count.
 fn sum(b: &[u8]) -> u64 {
     let mut total: u64 = 0;
-    let mut i = 0;
-    while i < b.len() {
-        total = (total * 31 + b[i] as u64) % 1000000007;
-        i += 1;
+    for x in b {
+        total = (total * 31 + *x as u64) % 1000000007;
     }
     total
 }
@@ -38,94 +36,104 @@ fn number_in(b: [u8; 80], at: usize) -> u32 {
     if at < 76 { words::read_u32(&b, at) } else { 0 }
 }
 
-fn image_number(b: &[u8]) {
+fn image_number(rt: &impl Print, b: &[u8]) -> io::Result<()> {
     let restored = Run::blank().restore(b);
     let event = restored.event;
     match event {
-        Reading::Accepted => number(0),
-        Reading::Refused { number: n } => number(n as u64),
+        Reading::Accepted => number(rt, 0),
+        Reading::Refused { number: n } => number(rt, n as u64),
     }
 }
 
-fn trace_number(b: &[u8]) {
+fn trace_number(rt: &impl Print, b: &[u8]) -> io::Result<()> {
     let traced = trace::read(b);
-    number(traced.refusal as u64);
+    number(rt, traced.refusal as u64)
 }
 
 // What a reader says of the first n bytes of b, as an image or as a trace.
-fn part(b: [u8; 80], n: usize, image: bool) {
-    prefix(&b, n, image);
+fn part(rt: &impl Print, b: [u8; 80], n: usize, image: bool) -> io::Result<()> {
+    prefix(rt, &b, n, image)
 }
 
-fn prefix(b: &[u8], n: usize, image: bool) {
+fn prefix(rt: &impl Print, b: &[u8], n: usize, image: bool) -> io::Result<()> {
     if n <= b.len() {
         let first = &b[..n];
         if image {
-            image_number(first);
+            image_number(rt, first)?;
         } else {
-            trace_number(first);
+            trace_number(rt, first)?;
         }
     }
+    Ok(())
 }
 
 // Each of the header's numbers one lower and one higher.
-fn header_by_one(b: [u8; 80], words: usize, n: usize, image: bool) {
-    let mut i = 0;
-    while i < words {
+fn header_by_one(
+    rt: &impl Print,
+    b: [u8; 80],
+    words: usize,
+    n: usize,
+    image: bool,
+) -> io::Result<()> {
+    for i in 0..words {
         if i < 20 {
             let x = number_in(b, 4 * i);
             if 0 < x {
-                part(with_number(b, 4 * i, x - 1), n, image);
+                part(rt, with_number(b, 4 * i, x - 1), n, image)?;
             }
             if x < 4294967295 {
-                part(with_number(b, 4 * i, x + 1), n, image);
+                part(rt, with_number(b, 4 * i, x + 1), n, image)?;
             }
         }
-        i += 1;
     }
-    end_line();
+    end_line(rt)
 }
 
 // N and k, at the offset, at 0, at both limits, past them and at 2^32 - 1.
-fn size_at(b: [u8; 80], at: usize, most: u32, n: usize, image: bool) {
-    part(with_number(b, at, 0), n, image);
-    part(with_number(b, at, 1), n, image);
-    part(with_number(b, at, most), n, image);
+fn size_at(
+    rt: &impl Print,
+    b: [u8; 80],
+    at: usize,
+    most: u32,
+    n: usize,
+    image: bool,
+) -> io::Result<()> {
+    part(rt, with_number(b, at, 0), n, image)?;
+    part(rt, with_number(b, at, 1), n, image)?;
+    part(rt, with_number(b, at, most), n, image)?;
     if most < 4294967295 {
-        part(with_number(b, at, most + 1), n, image);
+        part(rt, with_number(b, at, most + 1), n, image)?;
     }
-    part(with_number(b, at, 4294967295), n, image);
+    part(rt, with_number(b, at, 4294967295), n, image)
 }
 
 // Both sizes at their extremes, then every offset at 2^32 - 1.
-fn extremes(b: [u8; 80], words: usize, n: usize, image: bool) {
-    size_at(b, 0, 1024, n, image);
-    size_at(b, 4, 64, n, image);
-    let mut i = 3;
-    while i < words {
+fn extremes(rt: &impl Print, b: [u8; 80], words: usize, n: usize, image: bool) -> io::Result<()> {
+    size_at(rt, b, 0, 1024, n, image)?;
+    size_at(rt, b, 4, 64, n, image)?;
+    for i in 3..words {
         if i < 20 {
-            part(with_number(b, 4 * i, 4294967295), n, image);
+            part(rt, with_number(b, 4 * i, 4294967295), n, image)?;
         }
-        i += 1;
     }
-    end_line();
+    end_line(rt)
 }
 
 // Empty, under the header, one short, right, one long.
-fn lengths(b: [u8; 80], header: usize, n: usize, image: bool) {
-    part(b, 0, image);
+fn lengths(rt: &impl Print, b: [u8; 80], header: usize, n: usize, image: bool) -> io::Result<()> {
+    part(rt, b, 0, image)?;
     if 0 < header {
-        part(b, header - 1, image);
+        part(rt, b, header - 1, image)?;
     }
-    part(b, header, image);
+    part(rt, b, header, image)?;
     if 0 < n {
-        part(b, n - 1, image);
+        part(rt, b, n - 1, image)?;
     }
-    part(b, n, image);
+    part(rt, b, n, image)?;
     if n < 80 {
-        part(b, n + 1, image);
+        part(rt, b, n + 1, image)?;
     }
-    end_line();
+    end_line(rt)
 }
 
 fn with_byte(b: [u8; 80], at: usize, x: u8) -> [u8; 80] {
@@ -137,154 +145,160 @@ fn with_byte(b: [u8; 80], at: usize, x: u8) -> [u8; 80] {
 }
 
 // Marks and slots of trace A's start: pages 0 to 5 have the marks 131, 129, 0, 130, 0, 0, slots 0 to 2 the pages 1, 3, 0.
-fn marks_and_slots(b: [u8; 80]) {
+fn marks_and_slots(rt: &impl Print, b: [u8; 80]) -> io::Result<()> {
     // a mark with a layer above k; in layer 0; not cached; cached and in no slot
-    part(with_byte(b, 36, 132), 60, true);
-    part(with_byte(b, 36, 128), 60, true);
-    part(with_byte(b, 36, 3), 60, true);
-    part(with_byte(b, 38, 128), 60, true);
+    part(rt, with_byte(b, 36, 132), 60, true)?;
+    part(rt, with_byte(b, 36, 128), 60, true)?;
+    part(rt, with_byte(b, 36, 3), 60, true)?;
+    part(rt, with_byte(b, 38, 128), 60, true)?;
     // a slot named twice; of a page not below N; of another page; another priority
-    part(with_byte(b, 44, 1), 60, true);
-    part(with_byte(b, 44, 6), 60, true);
-    part(with_byte(b, 42, 2), 60, true);
-    part(with_byte(b, 48, 11), 60, true);
+    part(rt, with_byte(b, 44, 1), 60, true)?;
+    part(rt, with_byte(b, 44, 6), 60, true)?;
+    part(rt, with_byte(b, 42, 2), 60, true)?;
+    part(rt, with_byte(b, 48, 11), 60, true)?;
     // hits without served; best without misses; hits and misses whose sum in 32 bits would be served
-    part(with_number(b, 12, 1), 60, true);
-    part(with_number(b, 20, 1), 60, true);
-    part(with_number(with_number(b, 12, 4294967295), 16, 1), 60, true);
-    end_line();
+    part(rt, with_number(b, 12, 1), 60, true)?;
+    part(rt, with_number(b, 20, 1), 60, true)?;
+    part(
+        rt,
+        with_number(with_number(b, 12, 4294967295), 16, 1),
+        60,
+        true,
+    )?;
+    end_line(rt)
 }
 
-fn images(run: Run) {
+fn images(rt: &impl Print, run: Run) -> io::Result<()> {
     let mut b = [7u8; 80];
     let stored = run.store(&mut b);
-    number(stored.length as u64);
-    number(stored.refusal as u64);
-    number(sum(&b));
-    end_line();
-    lengths(b, 36, 60, true);
-    header_by_one(b, 9, 60, true);
-    extremes(b, 9, 60, true);
-    marks_and_slots(b);
+    number(rt, stored.length as u64)?;
+    number(rt, stored.refusal as u64)?;
+    number(rt, sum(&b))?;
+    end_line(rt)?;
+    lengths(rt, b, 36, 60, true)?;
+    header_by_one(rt, b, 9, 60, true)?;
+    extremes(rt, b, 9, 60, true)?;
+    marks_and_slots(rt, b)
 }
 
 // The image writer with a buffer one short, and of unsound runs.
-fn store_refusals(run: Run) {
+fn store_refusals(rt: &impl Print, run: Run) -> io::Result<()> {
     let mut short = [7u8; 59];
     let stored = run.store(&mut short);
-    number(stored.length as u64);
-    number(stored.refusal as u64);
-    number(sum(&short));
+    number(rt, stored.length as u64)?;
+    number(rt, stored.refusal as u64)?;
+    number(rt, sum(&short))?;
     let mut odd = run;
     let mut ranks = odd.ranks;
     ranks.priority[6] = 1;
     odd.ranks = ranks;
     let mut b = [7u8; 80];
     let unsound = odd.store(&mut b);
-    number(unsound.refusal as u64);
+    number(rt, unsound.refusal as u64)?;
     ranks.priority[6] = 0;
     odd.ranks = ranks;
     odd.held[3] = 5;
     let filled = odd.store(&mut b);
-    number(filled.refusal as u64);
+    number(rt, filled.refusal as u64)?;
     odd.held[3] = 65535;
     odd.layer[1000] = 1;
     let placed = odd.store(&mut b);
-    number(placed.refusal as u64);
-    number(sum(&b));
-    end_line();
+    number(rt, placed.refusal as u64)?;
+    number(rt, sum(&b))?;
+    end_line(rt)
 }
 
 fn written<'a>(
+    rt: &impl Print,
     pages: usize,
     slots: usize,
     list: &'a [u16],
     priorities: &'a [u16],
     requests: &'a [u16],
-) {
+) -> io::Result<()> {
     let mut b = [7u8; 80];
     let w = trace::write(pages, slots, list, priorities, requests, &mut b);
-    number(w.length as u64);
-    number(w.refusal as u64);
-    number(sum(&b));
+    number(rt, w.length as u64)?;
+    number(rt, w.refusal as u64)?;
+    number(rt, sum(&b))
 }
 
-fn traces() {
+fn traces(rt: &impl Print) -> io::Result<()> {
     let list: [u16; 3] = [1, 3, 0];
     let priorities: [u16; 6] = [10, 40, 20, 30, 50, 5];
     let requests: [u16; 6] = [4, 0, 3, 4, 4, 5];
     let many = [0u16; 30001];
-    written(6, 3, &list, &priorities, &requests);
-    written(0, 3, &list, &priorities, &requests);
-    written(6, 7, &list, &priorities, &requests);
-    written(6, 2, &list, &priorities, &requests);
-    written(6, 3, &list, &list, &requests);
-    written(6, 3, &list, &priorities, &many);
-    written(6, 3, &list, &priorities, &many[..20]);
-    end_line();
+    written(rt, 6, 3, &list, &priorities, &requests)?;
+    written(rt, 0, 3, &list, &priorities, &requests)?;
+    written(rt, 6, 7, &list, &priorities, &requests)?;
+    written(rt, 6, 2, &list, &priorities, &requests)?;
+    written(rt, 6, 3, &list, &list, &requests)?;
+    written(rt, 6, 3, &list, &priorities, &many)?;
+    written(rt, 6, 3, &list, &priorities, &many[..20])?;
+    end_line(rt)?;
     let mut b = [7u8; 80];
     let w = trace::write(6, 3, &list, &priorities, &requests, &mut b);
-    number(w.refusal as u64);
-    lengths(b, 24, 54, false);
-    header_by_one(b, 6, 54, false);
-    extremes(b, 6, 54, false);
-    part(with_number(b, 8, 30001), 54, false);
-    part(with_number(b, 8, 4294967295), 54, false);
-    part(with_byte(b, 24, 6), 54, false);
-    part(with_byte(b, 24, 3), 54, false);
-    part(with_byte(b, 25, 255), 54, false);
-    end_line();
+    number(rt, w.refusal as u64)?;
+    lengths(rt, b, 24, 54, false)?;
+    header_by_one(rt, b, 6, 54, false)?;
+    extremes(rt, b, 6, 54, false)?;
+    part(rt, with_number(b, 8, 30001), 54, false)?;
+    part(rt, with_number(b, 8, 4294967295), 54, false)?;
+    part(rt, with_byte(b, 24, 6), 54, false)?;
+    part(rt, with_byte(b, 24, 3), 54, false)?;
+    part(rt, with_byte(b, 25, 255), 54, false)?;
+    end_line(rt)
 }
 
-fn filled(run: Run, page: usize, area: &mut [u8], bytes: &[u8]) {
+fn filled(rt: &impl Print, run: Run, page: usize, area: &mut [u8], bytes: &[u8]) -> io::Result<()> {
     let n = frames::fill(run, page, area, bytes);
-    number(n as u64);
-    number(sum(area));
+    number(rt, n as u64)?;
+    number(rt, sum(area))
 }
 
-fn frames_of(run: Run) {
+fn frames_of(rt: &impl Print, run: Run) -> io::Result<()> {
     let page = [9u8; 65];
     let mut area = [1u8; 192];
     let mut short = [1u8; 191];
     let mut long = [1u8; 193];
-    filled(run, 3, &mut area, &page[..64]);
-    filled(run, 6, &mut area, &page[..64]);
-    filled(run, 3, &mut short, &page[..64]);
-    filled(run, 3, &mut long, &page[..64]);
-    filled(run, 3, &mut area, &page[..63]);
-    filled(run, 3, &mut area, &page);
-    filled(run, 4, &mut area, &page[..64]);
-    filled(Run::blank(), 3, &mut area, &page[..64]);
-    end_line();
+    filled(rt, run, 3, &mut area, &page[..64])?;
+    filled(rt, run, 6, &mut area, &page[..64])?;
+    filled(rt, run, 3, &mut short, &page[..64])?;
+    filled(rt, run, 3, &mut long, &page[..64])?;
+    filled(rt, run, 3, &mut area, &page[..63])?;
+    filled(rt, run, 3, &mut area, &page)?;
+    filled(rt, run, 4, &mut area, &page[..64])?;
+    filled(rt, Run::blank(), 3, &mut area, &page[..64])?;
+    end_line(rt)
 }
 
-fn looked(run: Run, page: usize, area: &[u8]) {
-    number(frames::look_refusal(run, page, area) as u64);
-    number(sum(frames::look(run, page, area)));
+fn looked(rt: &impl Print, run: Run, page: usize, area: &[u8]) -> io::Result<()> {
+    number(rt, frames::look_refusal(run, page, area) as u64)?;
+    number(rt, sum(frames::look(run, page, area)))
 }
 
-fn looks(run: Run) {
+fn looks(rt: &impl Print, run: Run) -> io::Result<()> {
     let page = [9u8; 64];
     let short = [1u8; 191];
     let mut area = [1u8; 192];
-    filled(run, 3, &mut area, &page);
-    looked(run, 3, &area);
-    looked(run, 1, &area);
-    looked(run, 4, &area);
-    looked(run, 6, &area);
-    looked(run, 3, &short);
-    looked(Run::blank(), 3, &area);
-    end_line();
+    filled(rt, run, 3, &mut area, &page)?;
+    looked(rt, run, 3, &area)?;
+    looked(rt, run, 1, &area)?;
+    looked(rt, run, 4, &area)?;
+    looked(rt, run, 6, &area)?;
+    looked(rt, run, 3, &short)?;
+    looked(rt, Run::blank(), 3, &area)?;
+    end_line(rt)
 }
 
-fn main() {
+fn main(rt: HostRuntime) -> io::Result<()> {
     let list: [u16; 3] = [1, 3, 0];
     let priorities: [u16; 6] = [10, 40, 20, 30, 50, 5];
     let begun = Run::start(6, 3, &list, &priorities);
     let run = begun.run;
-    images(run);
-    store_refusals(run);
-    traces();
-    frames_of(run);
-    looks(run);
+    images(&rt, run)?;
+    store_refusals(&rt, run)?;
+    traces(&rt)?;
+    frames_of(&rt, run)?;
+    looks(&rt, run)
 }
