@@ -9,13 +9,13 @@ use Rattle.paging.specs.Sets.{if◌then◌else◌}
 use Rattle.paging.specs.Tests.{truth, clash}
 use Rattle.words.specs.Laws.{take_put}
 use Rattle.image.specs.Layout.{image_length}
-use Rattle.image.specs.Theorems.{stored_length}
+use Rattle.image.proofs.Theorems.{stored_length}
 use Rattle.run.specs.declared.Run.{Run}
 use Rattle.run.specs.declared.Stored.{Stored}
 use Rattle.run.specs.Sound.{sound}
-use Rattle.run.specs.SoundLaws.{sound_iff}
+use Rattle.run.proofs.SoundLaws.{sound_iff}
 use Rattle.run.specs.Stored.{image_of, stored, stored_bytes}
-use Rattle.run.specs.Storing.{store_unsound, store_none, length_is}
+use Rattle.run.proofs.Storing.{store_unsound, store_none, length_is}
 use Rattle.hexadecimal.specs.declared.Count.{Count}
 use Rattle.hexadecimal.specs.declared.Count.TheVariants.{Of}
 use Rattle.hexadecimal.specs.declared.Count.TheVariants as counts

@@ -5,4 +5,3 @@ pub mod Begin
 pub mod Refusals
 pub mod LimitLaws
 pub mod Laws
-pub mod RefusalLaws

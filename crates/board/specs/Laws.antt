@@ -10,16 +10,16 @@ use Rattle.run.specs.declared.Served.{Served}
 use Rattle.run.specs.declared.Reading.TheVariants.{Accepted, Refused as Unread}
 use Rattle.paging.specs.Tests.{truth, same_or_not}
 use Rattle.image.specs.Layout.{image_length, pages_in, slots_in, image_refusal, marks_agree}
-use Rattle.image.specs.Laws.{Read, refusal_read}
+use Rattle.image.proofs.Laws.{Read, refusal_read}
 use Rattle.counts.specs.Counts.{most_served}
 use Rattle.run.specs.Sound.{Sound, sound}
-use Rattle.run.specs.SoundLaws.{sound_iff}
+use Rattle.run.proofs.SoundLaws.{sound_iff}
 use Rattle.run.specs.Request.{requested}
-use Rattle.run.specs.Requesting.{request_refusal, not_refused, requested_refused}
-use Rattle.run.specs.RequestLaws.{slot_holds, victim_in}
+use Rattle.run.proofs.Requesting.{request_refusal, not_refused, requested_refused}
+use Rattle.run.proofs.RequestLaws.{slot_holds, victim_in}
 use Rattle.run.specs.Stored.{image_run, restored, after_reading, requested_in}
-use Rattle.run.specs.Storing.{run_pages, run_slots}
-use Rattle.run.specs.Theorems.{IsHit, IsMiss, hit_or_miss, request_is_sound, pages_stay, slots_stay}
+use Rattle.run.proofs.Storing.{run_pages, run_slots}
+use Rattle.run.proofs.Theorems.{IsHit, IsMiss, hit_or_miss, request_is_sound, pages_stay, slots_stay}
 use Rattle.board.specs.Board.{Small, Fits, Settles}
 
 -- ---- an image that the reader accepts

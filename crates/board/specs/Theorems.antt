@@ -11,15 +11,15 @@ use Rattle.paging.specs.Tables.{table_length, table_at, table_past}
 use Rattle.words.specs.Words.{word_at, put}
 use Rattle.words.specs.Laws.{Bytes, take_bytes, drop_bytes, number_below, put_all}
 use Rattle.image.specs.Layout.{pages_in, slots_in, image_layers, image_slots, image_priorities}
-use Rattle.image.specs.Laws.{Read, read_room}
-use Rattle.image.specs.Theorems.{stored_length, stored_bytes}
+use Rattle.image.proofs.Laws.{Read, read_room}
+use Rattle.image.proofs.Theorems.{stored_length, stored_bytes}
 use Rattle.counts.specs.Counts.{most_served}
 use Rattle.run.specs.Cached.{slot_of}
 use Rattle.run.specs.Sound.{Sound}
 use Rattle.run.specs.Request.{requested}
 use Rattle.run.specs.Stored.{image_counts, image_run, restored, image_of, after_reading, requested_in}
-use Rattle.run.specs.StoredTheorems.{Typed, storable, stored_reads_back, typed_request}
-use Rattle.run.specs.Theorems.{IsHit, IsMiss, request_is_sound}
+use Rattle.run.proofs.StoredTheorems.{Typed, storable, stored_reads_back, typed_request}
+use Rattle.run.proofs.Theorems.{IsHit, IsMiss, request_is_sound}
 use Rattle.serve.specs.declared.Event.{Event}
 use Rattle.serve.specs.Event.{Values, values}
 use Rattle.board.specs.declared.Parts.{Parts}

@@ -16,8 +16,8 @@ use Rattle.paging.specs.Tests.{truth, clash, and_in, and_left, and_right, or_lef
 use Rattle.paging.specs.Count.{count_pos}
 use Rattle.paging.specs.Words.{each_true, each_in, first_none, first_some}
 use Rattle.paging.specs.Certificate.{upto, upto_in, Witness, Justified}
-use Rattle.paging.specs.Update.{held_top}
-use Rattle.paging.specs.Theorems.{selection_justified}
+use Rattle.paging.proofs.Update.{held_top}
+use Rattle.paging.proofs.Theorems.{selection_justified}
 use Rattle.slots.specs.Slots.{no_page, seated, near_of, keys_of, near_to}
 use Rattle.slots.specs.Laws.{near_at, keys_at, seated_in, seated_was, least_le}
 use Rattle.slots.specs.Held.{Seats, near_held, seated_count, least_slot, near_some}

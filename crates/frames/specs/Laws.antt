@@ -15,8 +15,8 @@ use Rattle.words.specs.Words.{put}
 use Rattle.run.specs.declared.Run.{Run}
 use Rattle.run.specs.Cached.{cached, slot_of}
 use Rattle.run.specs.Sound.{Sound, sound}
-use Rattle.run.specs.SoundLaws.{sound_iff}
-use Rattle.run.specs.RequestLaws.{slot_holds}
+use Rattle.run.proofs.SoundLaws.{sound_iff}
+use Rattle.run.proofs.RequestLaws.{slot_holds}
 use Rattle.frames.specs.Frames.{fill_refusal, filled, look_refusal, looked}
 
 -- ---- what Fill and Look begin with

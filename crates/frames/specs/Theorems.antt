@@ -10,7 +10,7 @@ use Rattle.words.specs.Laws.{drop_put, put_length}
 use Rattle.run.specs.declared.Run.{Run}
 use Rattle.run.specs.Numbers.{in_slot}
 use Rattle.run.specs.Cached.{cached, slot_of}
-use Rattle.run.specs.RequestLaws.{slot_holds}
+use Rattle.run.proofs.RequestLaws.{slot_holds}
 use Rattle.frames.specs.Frames.{fill_refusal, filled, look_refusal, looked}
 use Rattle.frames.specs.Laws.{Frame, fill_allowed, look_allowed, look_size, looked_part, looked_nothing, refused}
 

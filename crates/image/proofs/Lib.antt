@@ -5,3 +5,5 @@
 pub mod Bits
 pub mod Seats
 pub mod Stores
+pub mod Laws
+pub mod Theorems

@@ -13,7 +13,7 @@ use Rattle.words.specs.Laws.{put_none, put_then}
 use Rattle.words.proofs.Steps.{list_more}
 use Rattle.slots.specs.Slots.{no_page, seated}
 use Rattle.image.specs.Layout.{mark_byte, image_header, image_bytes, image_length}
-use Rattle.image.specs.Laws.{listed_front, header_length, list_length}
+use Rattle.image.proofs.Laws.{listed_front, header_length, list_length}
 
 -- ---- a loop that stores f of each number below n, from an offset on
 

@@ -1,4 +1,2 @@
 -- The layout of a stored run: what must be believed, and the laws of it. Assumes nothing.
 pub mod Layout
-pub mod Laws
-pub mod Theorems

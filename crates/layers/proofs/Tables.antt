@@ -12,7 +12,8 @@ use borrow.Author.Tests.{eq-eqb, ne_eqb}
 use Rattle.paging.specs.Sets.{bit, any, each, listed}
 use Rattle.paging.specs.Tests.{or_right}
 use Rattle.paging.specs.Layers.{in_layer, next}
-use Rattle.paging.specs.Moves.{bar, next_moved}
+use Rattle.paging.specs.Moves.{bar}
+use Rattle.paging.proofs.Moves.{next_moved}
 use Rattle.layers.specs.Asked.{layer_at, asked, lowered, sunk}
 use Rattle.layers.specs.Seen.{seen_marks}
 use Rattle.layers.specs.Laws.{sunk_past, next_lowered}

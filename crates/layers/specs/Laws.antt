@@ -8,7 +8,8 @@ use Rattle.std.proofs.lemmas.Bool.{lt-leb}
 use Rattle.paging.specs.Sets.{count, listed}
 use Rattle.paging.specs.Tests.{le_or_lt}
 use Rattle.paging.specs.Layers.{in_layer, next}
-use Rattle.paging.specs.Moves.{bar, next_moved}
+use Rattle.paging.specs.Moves.{bar}
+use Rattle.paging.proofs.Moves.{next_moved}
 use Rattle.paging.specs.Tables.{listed_length, listed_entry}
 use Rattle.layers.specs.Asked.{layer_at, asked, lowered, sunk}
 use Rattle.layers.specs.Seen.{alone_in}

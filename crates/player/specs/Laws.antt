@@ -17,7 +17,7 @@ use Rattle.run.specs.History.{run_after}
 use Rattle.trace.specs.declared.Traced.{Traced}
 use Rattle.trace.specs.Layout.{request_word, request_offset, requests_in, requests_of, trace_refusal, traced}
 use Rattle.trace.specs.Reading.{asked}
-use Rattle.trace.specs.Theorems.{read_header, accepted_read, read_sound, asked_all, told_refusal}
+use Rattle.trace.proofs.Theorems.{read_header, accepted_read, read_sound, asked_all, told_refusal}
 use Rattle.text.specs.Text.{event_line, first_line, last_line, refused_line}
 use Rattle.text.specs.Laws.{event_line_short, first_line_short, last_line_short, refused_line_short}
 use Rattle.counts.specs.declared.Counts.{Counts}

@@ -8,6 +8,5 @@
 pub mod Outranks
 pub mod Ranks
 pub mod Defaults
-pub mod Order
 pub mod Key
 pub mod Different

@@ -11,7 +11,8 @@ use Rattle.paging.specs.Tests.{le_or_lt}
 use Rattle.paging.specs.Tables.{entry_any, fill_more, table_length, listed_same}
 use Rattle.words.specs.Words.{word_at, put}
 use Rattle.words.specs.Laws.{put_put, put_length, put_none}
-use Rattle.ranking.specs.Key.{key_of, key_at, page_keys, keys_entry}
+use Rattle.ranking.specs.Key.{key_of, key_at, page_keys}
+use Rattle.ranking.proofs.KeyLaws.{keys_entry}
 use Rattle.slots.specs.Slots.{no_page, keys_of}
 use Rattle.serve.specs.declared.Event.{Event}
 use Rattle.serve.specs.declared.Event.TheVariants.{Refused}
@@ -20,15 +21,17 @@ use Rattle.run.specs.declared.Run.{Run}
 use Rattle.run.specs.declared.Served.{Served}
 use Rattle.run.specs.Numbers.{ranks}
 use Rattle.run.specs.Sound.{Sound}
-use Rattle.run.specs.SoundLaws.{sound_iff, run_counts}
+use Rattle.run.proofs.SoundLaws.{sound_iff, run_counts}
 use Rattle.run.specs.Cached.{slot_of}
 use Rattle.run.specs.Request.{requested, next_run, counted}
 use Rattle.run.specs.History.{run_after}
-use Rattle.run.specs.Requesting.{request_refusal, refusal_of_sound, refuse_page, refuse_served, refuse_none, requested_refused, requested_served}
-use Rattle.run.specs.Serving.{RunKeys, run_ready, run_ranked, step_taken}
-use Rattle.run.specs.Theorems.{hit_or_miss, request_is_sound}
+use Rattle.run.proofs.Requesting.{request_refusal, refusal_of_sound, refuse_page, refuse_served, refuse_none, requested_refused, requested_served}
+use Rattle.run.specs.Serving.{RunKeys}
+use Rattle.run.proofs.Serving.{run_ready, run_ranked, step_taken}
+use Rattle.run.proofs.Theorems.{hit_or_miss, request_is_sound}
 use Rattle.trace.specs.Layout.{request_word}
-use Rattle.trace.specs.Reading.{asked, asked_next, asked_last, request_past, request_there}
+use Rattle.trace.specs.Reading.{asked}
+use Rattle.trace.proofs.Reading.{asked_next, asked_last, request_past, request_there}
 use Rattle.text.specs.Text.{event_line}
 use Rattle.counts.specs.declared.Counts.{Counts}
 use Rattle.counts.specs.declared.Turn.{Turn}

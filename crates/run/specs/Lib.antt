@@ -25,15 +25,8 @@ pub mod Start
 pub mod Request
 pub mod Questions
 pub mod Stored
-pub mod SoundLaws
-pub mod RequestLaws
 pub mod StartLaws
 pub mod Starting
 pub mod Serving
 pub mod Testing
-pub mod Requesting
-pub mod Asking
-pub mod Storing
 pub mod History
-pub mod Theorems
-pub mod StoredTheorems

@@ -13,9 +13,9 @@ use Rattle.paging.specs.Best.{seen, start}
 use Rattle.paging.specs.Tests.{truth, same_test, le_or_lt}
 use Rattle.paging.specs.Tables.{entry_any, table_at, table_past}
 use Rattle.paging.specs.Top.{rank}
-use Rattle.paging.specs.Begin.{placed_or, seen_in, seen_was, start_of, start_justified}
-use Rattle.paging.specs.Theorems.{selection_justified}
-use Rattle.ranking.specs.Order.{outranks_ranking}
+use Rattle.paging.proofs.Begin.{placed_or, seen_in, seen_was, start_of, start_justified}
+use Rattle.paging.proofs.Theorems.{selection_justified}
+use Rattle.ranking.proofs.Order.{outranks_ranking}
 use Rattle.slots.specs.Slots.{no_page}
 use Rattle.slots.specs.Laws.{seated_in, seated_was}
 use Rattle.begin.specs.Limits.{most_pages, most_slots, pages_fit, slots_fit}

@@ -13,7 +13,7 @@ use Rattle.begin.specs.Limits.{pages_fit, slots_fit}
 use Rattle.begin.specs.Begin.{start_priorities}
 use Rattle.begin.specs.Refusals.{list_refusal, start_refusal}
 use Rattle.begin.specs.LimitLaws.{pages_within, slots_within}
-use Rattle.begin.specs.RefusalLaws.{Listed, list_cases, listed_start, refusal_small, refuse_list, refuse_priorities, refuse_none, start_allowed}
+use Rattle.begin.proofs.RefusalLaws.{Listed, list_cases, listed_start, refusal_small, refuse_list, refuse_priorities, refuse_none, start_allowed}
 use Rattle.run.specs.Numbers.{blank_run}
 use Rattle.run.specs.Start.{start_run, listed_run, no_start, started, started_default}
 

@@ -3,7 +3,8 @@ use Rattle.std.specs.Prelude.{List, ◌≡◌, ℕ, ◌≤◌, ◌<◌, length, 
 use Rattle.std.proofs.Common.{⊎_elim, sym, ap, ◌∙◌, arith, length-set, get_or-set_same, get_or-set_other, ext_get_or}
 use Rattle.paging.specs.Tests.{same_or_not, le_or_lt}
 use Rattle.paging.specs.Tables.{table_past}
-use Rattle.paging.specs.Moves.{bar, next_moved}
+use Rattle.paging.specs.Moves.{bar}
+use Rattle.paging.proofs.Moves.{next_moved}
 use Rattle.layers.specs.Asked.{layer_at, asked, lowered, sunk}
 use Rattle.layers.specs.Laws.{asked_at, next_lowered, sunk_length, sunk_at, sunk_past}
 use Rattle.slots.specs.Slots.{no_page, near_of, keys_of}

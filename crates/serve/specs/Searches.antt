@@ -8,10 +8,11 @@ use Rattle.paging.specs.Selection.{chosen}
 use Rattle.paging.specs.Victim.{cached_to, full, reach, lowest_to, victim}
 use Rattle.paging.specs.Words.{IsLowest, lowest_found}
 use Rattle.paging.specs.Certificate.{Justified}
-use Rattle.paging.specs.Update.{no_zero}
-use Rattle.paging.specs.Found.{cached_to_in, cached_to_member, cached_to_layer, count_to, lowest_at, reach_some}
-use Rattle.paging.specs.Theorems.{selection_justified, miss_reach, victim_cached}
-use Rattle.ranking.specs.Key.{Keyed, keyed_apart, page_of}
+use Rattle.paging.proofs.Update.{no_zero}
+use Rattle.paging.proofs.Found.{cached_to_in, cached_to_member, cached_to_layer, count_to, lowest_at, reach_some}
+use Rattle.paging.proofs.Theorems.{selection_justified, miss_reach, victim_cached}
+use Rattle.ranking.specs.Key.{Keyed, page_of}
+use Rattle.ranking.proofs.KeyLaws.{keyed_apart}
 use Rattle.layers.specs.Asked.{layer_at}
 use Rattle.slots.specs.Slots.{no_page, seated, found, near_of, keys_of, near_to, least_key}
 use Rattle.slots.specs.Laws.{near_at, keys_at, seated_in, seated_was, least_le}

@@ -13,7 +13,7 @@ use Rattle.paging.specs.Tests.{truth, clash, is, positive, same_or_not, le_or_lt
 use Rattle.paging.specs.Count.{single, single_inside, count_single, count_less}
 use Rattle.paging.specs.Layers.{in_layer, asked_known, next}
 use Rattle.paging.specs.Moves.{bar}
-use Rattle.paging.specs.Theorems.{miss_victim}
+use Rattle.paging.proofs.Theorems.{miss_victim}
 use Rattle.layers.specs.Asked.{layer_at, asked, sunk}
 use Rattle.layers.specs.Laws.{asked_length, asked_at, asked_past}
 use Rattle.slots.specs.Slots.{no_page, seated, seat, found, near_of, keys_of}

@@ -11,8 +11,9 @@ use Rattle.run.specs.Request.{requested}
 use Rattle.run.specs.History.{run_after}
 use Rattle.trace.specs.declared.Traced.{Traced}
 use Rattle.trace.specs.Layout.{trace_refusal, traced, requests_of, requests_in, request_offset, request_word}
-use Rattle.trace.specs.Reading.{asked, asked_next, asked_last}
-use Rattle.trace.specs.Theorems.{accepted_read, read_sound, asked_all, told_refusal}
+use Rattle.trace.specs.Reading.{asked}
+use Rattle.trace.proofs.Reading.{asked_next, asked_last}
+use Rattle.trace.proofs.Theorems.{accepted_read, read_sound, asked_all, told_refusal}
 
 -- The misses after all requests of a trace; 0 of a refused file.
 unfoldable pub trace_misses : List ℕ → ℕ

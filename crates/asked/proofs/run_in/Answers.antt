@@ -4,7 +4,7 @@ use native.Mathlib.Omega.{arith}
 use borrow.Author.Rules.{rules}
 use borrow.Author.Tests.{not-true, not-false}
 use Rattle.run.specs.Stored.{image_run}
-use Rattle.run.specs.Storing.{image_fits, described_is, run_pages, run_slots, agree_in}
+use Rattle.run.proofs.Storing.{image_fits, described_is, run_pages, run_slots, agree_in}
 use Rattle.asked.specs.Laws.{agreeing, differing}
 use Rattle.asked.proofs.run_in.Goals as goal
 use Rattle.asked.proofs.run_in.Goals.{After-in_image-run}

@@ -2,7 +2,7 @@
 use mathlib.Core.Path.{sym, ◌∙◌}
 use borrow.Author.Rules.{rules}
 use borrow.Author.Tests.{not-true, not-false}
-use Rattle.begin.specs.RefusalLaws.{refuse_limits, refuse_entries, refuse_below, refuse_different, refuse_nothing}
+use Rattle.begin.proofs.RefusalLaws.{refuse_limits, refuse_entries, refuse_below, refuse_different, refuse_nothing}
 use Rattle.begin.proofs.list_refusal.Goals as goal
 
 pub returns-then-refusal-ne0 : goal.returns-then-refusal-ne0

@@ -1,6 +1,6 @@
 -- `begin::refusal` meets its contract, by its tests in their order. Assumes nothing.
 use borrow.Author.Rules.{rules}
-use Rattle.begin.specs.RefusalLaws.{refuse_list, refuse_priorities, refuse_none}
+use Rattle.begin.proofs.RefusalLaws.{refuse_list, refuse_priorities, refuse_none}
 use Rattle.begin.proofs.refusal.Goals as goal
 
 pub returns-then-number-ne0 : goal.returns-then-number-ne0

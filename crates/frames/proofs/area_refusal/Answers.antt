@@ -5,7 +5,7 @@ use native.Mathlib.Omega.{arith}
 use borrow.Author.Rules.{rules}
 use borrow.Author.Tests.{not-true, not-false}
 use Rattle.run.specs.Sound.{sound}
-use Rattle.run.specs.SoundLaws.{sound_iff}
+use Rattle.run.proofs.SoundLaws.{sound_iff}
 use Rattle.frames.specs.Laws.{area_unsound, area_page, area_size, area_right}
 use Rattle.frames.proofs.area_refusal.Goals as goal
 use Rattle.frames.proofs.area_refusal.Goals.{Else-not-is_sound}

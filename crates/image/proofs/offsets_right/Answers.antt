@@ -4,7 +4,7 @@ use native.Mathlib.Omega.{arith}
 use borrow.Author.Rules.{rules}
 use Rattle.paging.specs.Tests.{isnt}
 use Rattle.image.specs.Layout.{offsets_right}
-use Rattle.image.specs.Laws.{offsets_true, offsets_last}
+use Rattle.image.proofs.Laws.{offsets_true, offsets_last}
 use Rattle.image.proofs.offsets_right.Goals as goal
 
 pub returns-then-number_at-ne36 : goal.returns-then-number_at-ne36

@@ -7,7 +7,7 @@ use borrow.Author.Rules.{rules}
 use borrow.Author.Tests.{not-true, not-false}
 use Rattle.begin.specs.Limits.{limits_refusal}
 use Rattle.image.specs.Layout.{image_length, pages_in, slots_in}
-use Rattle.image.specs.Laws.{refusal_short, refusal_limits, refusal_offsets, refusal_total, refusal_none}
+use Rattle.image.proofs.Laws.{refusal_short, refusal_limits, refusal_offsets, refusal_total, refusal_none}
 use Rattle.image.proofs.refusal.Goals as goal
 use Rattle.image.proofs.refusal.Goals.{After-limits_refusal-limits}
 

@@ -1,6 +1,6 @@
 -- `layers::ask` meets its contract. Assumes nothing.
 use borrow.Author.Rules.{rules}
-use Rattle.paging.specs.Moves.{bar_range}
+use Rattle.paging.proofs.Moves.{bar_range}
 use Rattle.layers.proofs.Tables.{ask_end}
 use Rattle.layers.proofs.ask.Goals as goal
 

@@ -1,7 +1,7 @@
 -- `layers::first_sinking` meets its contract. Assumes nothing.
 use mathlib.Core.Path.{sym}
 use Rattle.paging.specs.Tests.{positive}
-use Rattle.paging.specs.Moves.{bar_zero, bar_pos}
+use Rattle.paging.proofs.Moves.{bar_zero, bar_pos}
 use Rattle.layers.proofs.first_sinking.Goals as goal
 
 pub returns-then-i-eq0 : goal.returns-then-i-eq0

@@ -5,7 +5,7 @@ use Prim.Native.Nat.{◌-◌}
 use native.Mathlib.Omega.{arith}
 use borrow.Author.Rules.{rules}
 use Rattle.run.specs.declared.Run.{Run}
-use Rattle.run.specs.Serving.{slots_hold, slots_byte}
+use Rattle.run.proofs.Serving.{slots_hold, slots_byte}
 use Rattle.trace.specs.Reading.{asked}
 use Rattle.replay.specs.Replay.{state}
 use Rattle.replay.specs.Laws.{Long, Replaying, replaying_first, replaying_next, replaying_last, part_asked}

@@ -21,9 +21,9 @@ loop-r-init c = (search rules, search rules, refl)
 pub loop-r-preserved : goal.loop-r-preserved
 loop-r-preserved c =
     elim c.if-set-r.branch [
-      then-set-r+then-keys-q w ↦ (search rules, omega arith, w.n-is ∙ count_in _ _ _ c.loop-r.invariant.2 (and_in _ _ w.if-set-r.true (lt-ltb _ _ w.if-keys-q.true)))
-    | then-set-r+else-keys-q w ↦ (search rules, omega arith, w.n-is ∙ count_out _ _ _ c.loop-r.invariant.2 (and_right_out _ _ w.if-set-r.true (le-ltb _ _ w.if-keys-q.false)))
-    | else-set-r w ↦ (search rules, omega arith, w.n-is ∙ count_out _ _ _ c.loop-r.invariant.2 (and_left_out _ _ w.if-set-r.false))
+      | then-set-r+then-keys-q w ↦ (search rules, omega arith, w.n-is ∙ count_in _ _ _ c.loop-r.invariant.2 (and_in _ _ w.if-set-r.true (lt-ltb _ _ w.if-keys-q.true)))
+      | then-set-r+else-keys-q w ↦ (search rules, omega arith, w.n-is ∙ count_out _ _ _ c.loop-r.invariant.2 (and_right_out _ _ w.if-set-r.true (le-ltb _ _ w.if-keys-q.false)))
+      | else-set-r w ↦ (search rules, omega arith, w.n-is ∙ count_out _ _ _ c.loop-r.invariant.2 (and_left_out _ _ w.if-set-r.false))
     ]
 
 pub returns : goal.returns

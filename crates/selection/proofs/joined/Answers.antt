@@ -16,8 +16,8 @@ loop-q-init c = (search rules, marks_none _)
 pub loop-q-preserved : goal.loop-q-preserved
 loop-q-preserved c =
     elim c.if-layer-q.branch [
-      then-layer-q w ↦ (search rules, w.out-is ∙ marks_turn _ _ _ c.loop-q.invariant.1 true (search rules) (together_in _ _ _ _ w.if-layer-q.true))
-    | else-layer-q w ↦ (search rules, w.out-is ∙ marks_turn _ _ _ c.loop-q.invariant.1 _ (search rules) (together_else _ _ _ _ w.if-layer-q.false))
+      | then-layer-q w ↦ (search rules, w.out-is ∙ marks_turn _ _ _ c.loop-q.invariant.1 true (search rules) (together_in _ _ _ _ w.if-layer-q.true))
+      | else-layer-q w ↦ (search rules, w.out-is ∙ marks_turn _ _ _ c.loop-q.invariant.1 _ (search rules) (together_else _ _ _ _ w.if-layer-q.false))
     ]
 
 pub returns : goal.returns

@@ -17,8 +17,8 @@ loop-q-init c = (search rules, marks_none _)
 pub loop-q-preserved : goal.loop-q-preserved
 loop-q-preserved c =
     elim c.if-set-q.branch [
-      then-set-q w ↦ (search rules, w.out-is ∙ marks_turn _ _ _ c.loop-q.invariant.1 _ (search rules) (highest_in _ _ _ _ _ w.if-set-q.true _ w.above_of.ensures))
-    | else-set-q w ↦ (search rules, w.out-is ∙ marks_pass _ _ _ c.loop-q.invariant.1 (search rules) (highest_out _ _ _ _ _ w.if-set-q.false))
+      | then-set-q w ↦ (search rules, w.out-is ∙ marks_turn _ _ _ c.loop-q.invariant.1 _ (search rules) (highest_in _ _ _ _ _ w.if-set-q.true _ w.above_of.ensures))
+      | else-set-q w ↦ (search rules, w.out-is ∙ marks_pass _ _ _ c.loop-q.invariant.1 (search rules) (highest_out _ _ _ _ _ w.if-set-q.false))
     ]
 
 pub returns : goal.returns

@@ -5,7 +5,7 @@ use native.Mathlib.Omega.{arith}
 use mathlib.Core.List.{List}
 use lib.ListN.{set}
 use borrow.Author.Rules.{rules}
-use Rattle.paging.specs.Moves.{bar_range}
+use Rattle.paging.proofs.Moves.{bar_range}
 use Rattle.layers.specs.Asked.{layer_at, sunk}
 use Rattle.serve.proofs.settle.Goals as goal
 
@@ -18,6 +18,9 @@ sink_near-requires c =
 
 pub returns : goal.returns
 returns c =
-    record { layers = c.ask.ensures; nears = ap
-      (λ (l : List ℕ). set l c.args.s c.args.slots)
-      (c.sink_near.ensures ∙ ap (λ (f : ℕ). sunk f c.args.slots c.args.near.now) c.first_sinking-from.ensures) }
+    record {
+      layers = c.ask.ensures;
+      nears = ap
+          (λ (l : List ℕ). set l c.args.s c.args.slots)
+          (c.sink_near.ensures ∙ ap (λ (f : ℕ). sunk f c.args.slots c.args.near.now) c.first_sinking-from.ensures);
+    }

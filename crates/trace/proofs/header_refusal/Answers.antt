@@ -2,7 +2,7 @@
 use mathlib.Core.Path.{sym, ◌∙◌}
 use borrow.Author.Rules.{rules}
 use borrow.Author.Tests.{not-true, not-false}
-use Rattle.trace.specs.Reading.{header_short, header_limits, header_requests, header_offsets, header_total, header_none}
+use Rattle.trace.proofs.Reading.{header_short, header_limits, header_requests, header_offsets, header_total, header_none}
 use Rattle.trace.proofs.header_refusal.Goals as goal
 
 pub returns-then-file-lt24 : goal.returns-then-file-lt24

@@ -1,6 +1,6 @@
 -- `trace::offsets_right` meets its contract, by its tests in their order. Assumes nothing.
 use borrow.Author.Rules.{rules}
-use Rattle.trace.specs.Reading.{wrong_first, wrong_second, right_two}
+use Rattle.trace.proofs.Reading.{wrong_first, wrong_second, right_two}
 use Rattle.trace.proofs.offsets_right.Goals as goal
 
 pub returns-then-read_u32-ne24 : goal.returns-then-read_u32-ne24

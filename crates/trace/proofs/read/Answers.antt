@@ -2,7 +2,7 @@
 use mathlib.Core.Path.{◌∙◌}
 use native.Mathlib.Omega.{arith}
 use borrow.Author.Rules.{rules}
-use Rattle.trace.specs.Reading.{header_room, header_refuses, traced_refused, read_refused, read_told, part_length}
+use Rattle.trace.proofs.Reading.{header_room, header_refuses, traced_refused, read_refused, read_told, part_length}
 use Rattle.trace.proofs.read.Goals as goal
 
 pub returns-then-header-ne0 : goal.returns-then-header-ne0

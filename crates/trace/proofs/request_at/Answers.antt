@@ -1,6 +1,6 @@
 -- `trace::request_at` meets its contract. Assumes nothing.
 use borrow.Author.Rules.{rules}
-use Rattle.trace.specs.Reading.{request_past, request_there}
+use Rattle.trace.proofs.Reading.{request_past, request_there}
 use Rattle.trace.proofs.request_at.Goals as goal
 
 pub returns-then-file-offset : goal.returns-then-file-offset

@@ -1,7 +1,7 @@
 -- `trace::write` meets its contract, by its tests in their order. Assumes nothing.
 use native.Mathlib.Omega.{arith}
 use borrow.Author.Rules.{rules}
-use Rattle.trace.specs.Writing.{write_refused, write_told, refuse_start, refuse_requests, refuse_room, refuse_none, write_fits, start_limits}
+use Rattle.trace.proofs.Writing.{write_refused, write_told, refuse_start, refuse_requests, refuse_room, refuse_none, write_fits, start_limits}
 use Rattle.trace.proofs.write.Goals as goal
 
 pub returns-then-refusal-ne0 : goal.returns-then-refusal-ne0

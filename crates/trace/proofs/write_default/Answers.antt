@@ -1,7 +1,7 @@
 -- `trace::write_default` meets its contract: the table of default priorities, and then as `write`. Assumes nothing.
 use borrow.Author.Rules.{rules}
-use Rattle.trace.specs.Writing.{write_refused, refuse_limited, default_part, limit_pages}
-use Rattle.trace.specs.Reading.{part_length}
+use Rattle.trace.proofs.Writing.{write_refused, refuse_limited, default_part, limit_pages}
+use Rattle.trace.proofs.Reading.{part_length}
 use Rattle.begin.specs.Begin.{start_priorities}
 use Rattle.trace.proofs.write_default.Goals as goal
 

@@ -1,7 +1,7 @@
 -- `trace::write_header` meets its contract, number by number. Assumes nothing.
 use mathlib.Core.Path.{refl}
 use borrow.Author.Rules.{rules}
-use Rattle.trace.specs.Writing.{header_written}
+use Rattle.trace.proofs.Writing.{header_written}
 use Rattle.trace.proofs.write_header.Goals as goal
 
 pub returns : goal.returns

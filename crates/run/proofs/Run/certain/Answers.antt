@@ -1,7 +1,7 @@
 -- `Run::certain` meets its contract. Assumes nothing.
 use mathlib.Core.Path.{◌≡◌, sym, ◌∙◌}
 use borrow.Author.Rules.{rules}
-use Rattle.run.specs.Asking.{question_allowed, certain_refused, certain_told}
+use Rattle.run.proofs.Asking.{question_allowed, certain_refused, certain_told}
 use Rattle.run.proofs.Run.certain.Goals as goal
 
 pub returns-then-refusal-ne0 : goal.returns-then-refusal-ne0

@@ -1,7 +1,7 @@
 -- `Run::in_image` meets its contract, by the test of the header. Assumes nothing.
 use mathlib.Core.Path.{◌≡◌, sym, ◌∙◌}
 use borrow.Author.Rules.{rules}
-use Rattle.run.specs.Storing.{described_blank, described_is}
+use Rattle.run.proofs.Storing.{described_blank, described_is}
 use Rattle.run.proofs.Run.in_image.Goals as goal
 
 pub returns-then-refusal-ne0 : goal.returns-then-refusal-ne0

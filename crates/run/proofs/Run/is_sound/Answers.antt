@@ -1,6 +1,6 @@
 -- `Run::is_sound` meets its contract: the run is tested by its parts. Assumes nothing.
 use borrow.Author.Rules.{rules}
-use Rattle.run.specs.Testing.{sound_by_parts}
+use Rattle.run.proofs.Testing.{sound_by_parts}
 use Rattle.run.proofs.Run.is_sound.Goals as goal
 
 pub parts_sound-requires : goal.parts_sound-requires

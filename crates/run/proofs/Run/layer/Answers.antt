@@ -2,7 +2,7 @@
 use mathlib.Core.Path.{◌≡◌, sym, ◌∙◌}
 use native.Mathlib.Omega.{arith}
 use borrow.Author.Rules.{rules}
-use Rattle.run.specs.Asking.{question_allowed, layer_refused, layer_told}
+use Rattle.run.proofs.Asking.{question_allowed, layer_refused, layer_told}
 use Rattle.run.proofs.Run.layer.Goals as goal
 
 pub returns-then-refusal-ne0 : goal.returns-then-refusal-ne0

@@ -3,7 +3,7 @@ use mathlib.Core.Path.{◌≡◌, sym, ◌∙◌}
 use borrow.Author.Rules.{rules}
 use borrow.Author.Tests.{not-true, not-false}
 use Rattle.begin.specs.LimitLaws.{limits_hold}
-use Rattle.run.specs.Testing.{fails_limits, fails_counts, fails_ranks, tables_decide, keyed_by}
+use Rattle.run.proofs.Testing.{fails_limits, fails_counts, fails_ranks, tables_decide, keyed_by}
 use Rattle.run.proofs.Run.parts_sound.Goals as goal
 
 pub returns-then-limits_refusal-ne0 : goal.returns-then-limits_refusal-ne0

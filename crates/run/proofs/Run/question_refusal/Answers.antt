@@ -1,7 +1,7 @@
 -- `Run::question_refusal` meets its contract, by its tests. Assumes nothing.
 use mathlib.Core.Path.{sym, ◌∙◌}
 use borrow.Author.Rules.{rules}
-use Rattle.run.specs.Asking.{question_unsound, question_page, question_none}
+use Rattle.run.proofs.Asking.{question_unsound, question_page, question_none}
 use borrow.Author.Tests.{not-true, not-false}
 use Rattle.run.proofs.Run.question_refusal.Goals as goal
 

@@ -6,8 +6,8 @@ use native.Mathlib.Omega.{arith}
 use borrow.Author.Rules.{rules}
 use borrow.Author.Tests.{not-true, not-false}
 use Rattle.run.specs.Sound.{sound}
-use Rattle.run.specs.Testing.{sound_by_parts}
-use Rattle.run.specs.Requesting.{refuse_unsound, refusal_of_sound, not_refused, requested_refused, requested_served, with_values}
+use Rattle.run.proofs.Testing.{sound_by_parts}
+use Rattle.run.proofs.Requesting.{refuse_unsound, refusal_of_sound, not_refused, requested_refused, requested_served, with_values}
 use Rattle.run.proofs.Run.request.Goals as goal
 
 pub parts_sound-is_sound-requires : goal.parts_sound-is_sound-requires

@@ -5,7 +5,7 @@ use borrow.Author.Rules.{rules}
 use borrow.Author.Tests.{not-true, not-false}
 use Rattle.serve.specs.declared.Event.TheVariants.{Refused}
 use Rattle.run.specs.declared.Served.{Served}
-use Rattle.run.specs.Storing.{restored_refused, restored_unequal, restored_unsound, restored_accepted, image_fits, run_pages, run_slots, agree_in, sound_in, in_refused, in_accepted, one_unsound, not_one_sound}
+use Rattle.run.proofs.Storing.{restored_refused, restored_unequal, restored_unsound, restored_accepted, image_fits, run_pages, run_slots, agree_in, sound_in, in_refused, in_accepted, one_unsound, not_one_sound}
 use Rattle.run.proofs.Refusals.{other_refusal}
 use Rattle.run.proofs.Run.request_in.Goals as goal
 

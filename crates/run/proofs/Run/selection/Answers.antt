@@ -2,9 +2,9 @@
 use mathlib.Core.Path.{sym, ◌∙◌}
 use borrow.Author.Rules.{rules}
 use borrow.Author.Tests.{not-true, not-false}
-use Rattle.run.specs.SoundLaws.{sound_iff}
-use Rattle.run.specs.Testing.{keyed_by}
-use Rattle.run.specs.Asking.{selection_refused, selection_told}
+use Rattle.run.proofs.SoundLaws.{sound_iff}
+use Rattle.run.proofs.Testing.{keyed_by}
+use Rattle.run.proofs.Asking.{selection_refused, selection_told}
 use Rattle.run.proofs.Run.selection.Goals as goal
 
 pub returns-then-not-is_sound : goal.returns-then-not-is_sound

@@ -6,8 +6,8 @@ use borrow.Author.Rules.{rules}
 use Rattle.slots.specs.Laws.{keys_length}
 use Rattle.counts.specs.Laws.{counts_room}
 use Rattle.run.specs.Request.{next_run}
-use Rattle.run.specs.SoundLaws.{run_counts}
-use Rattle.run.specs.Serving.{slots_hold, slots_byte, page_short, run_ready, step_taken}
+use Rattle.run.proofs.SoundLaws.{run_counts}
+use Rattle.run.proofs.Serving.{slots_hold, slots_byte, page_short, run_ready, step_taken}
 use Rattle.run.proofs.Run.serve.Goals as goal
 
 pub nears-near-requires : goal.nears-near-requires

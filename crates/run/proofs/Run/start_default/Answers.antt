@@ -2,7 +2,7 @@
 use mathlib.Core.Path.{◌≡◌, sym, ap, ◌∙◌}
 use borrow.Author.Rules.{rules}
 use Rattle.ranking.specs.Ranks.{fixed_ranks}
-use Rattle.begin.specs.RefusalLaws.{begun_layers, start_allowed}
+use Rattle.begin.proofs.RefusalLaws.{begun_layers, start_allowed}
 use Rattle.run.specs.Start.{started_default}
 use Rattle.run.specs.Starting.{answer_refused, answer_begun, default_told}
 use Rattle.run.proofs.Run.start_default.Goals as goal

@@ -3,7 +3,7 @@ use mathlib.Core.Path.{◌≡◌, sym, ◌∙◌}
 use native.Mathlib.Omega.{arith}
 use borrow.Author.Rules.{rules}
 use Rattle.run.specs.Stored.{image_of}
-use Rattle.run.specs.Storing.{store_fits, stored_refused, stored_untouched, stored_told, stored_put, length_is}
+use Rattle.run.proofs.Storing.{store_fits, stored_refused, stored_untouched, stored_told, stored_put, length_is}
 use Rattle.run.proofs.Run.store.Goals as goal
 
 pub returns-then-refusal-ne0 : goal.returns-then-refusal-ne0

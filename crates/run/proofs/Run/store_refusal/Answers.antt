@@ -3,8 +3,8 @@ use mathlib.Core.Path.{sym, ◌∙◌}
 use native.Mathlib.Omega.{arith}
 use borrow.Author.Rules.{rules}
 use borrow.Author.Tests.{not-true, not-false}
-use Rattle.run.specs.SoundLaws.{sound_iff}
-use Rattle.run.specs.Storing.{store_unsound, store_short, store_none, length_is}
+use Rattle.run.proofs.SoundLaws.{sound_iff}
+use Rattle.run.proofs.Storing.{store_unsound, store_short, store_none, length_is}
 use Rattle.run.proofs.Run.store_refusal.Goals as goal
 
 pub returns-then-not-is_sound : goal.returns-then-not-is_sound

@@ -12,8 +12,8 @@ use Rattle.paging.specs.Tests.{clash, le_or_lt, before}
 use Rattle.paging.specs.Count.{single, count_same, count_single, single_inside}
 use Rattle.paging.specs.Words.{first_none, first_some}
 use Rattle.paging.specs.Certificate.{held, Witness, Justified}
-use Rattle.paging.specs.Update.{held_top}
-use Rattle.paging.specs.Lower.{seen_layer, seen_of, start_fits}
+use Rattle.paging.proofs.Update.{held_top}
+use Rattle.paging.proofs.Lower.{seen_layer, seen_of, start_fits}
 use Rattle.paging.specs.Choice.{between}
 
 module _ {N k : ℕ} (ps : List ℕ) (list : StartList N k ps) where

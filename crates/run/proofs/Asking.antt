@@ -10,7 +10,8 @@ use Rattle.run.specs.declared.CertainAnswer.{CertainAnswer}
 use Rattle.run.specs.declared.SelectionAnswer.{SelectionAnswer}
 use Rattle.paging.specs.Selection.{chosen}
 use Rattle.paging.specs.Tests.{truth}
-use Rattle.ranking.specs.Key.{Keyed, by_key, keyed_same}
+use Rattle.ranking.specs.Key.{Keyed, by_key}
+use Rattle.ranking.proofs.KeyLaws.{keyed_same}
 use Rattle.layers.specs.Seen.{alone_in}
 use Rattle.selection.specs.Marks.{marks}
 use Rattle.selection.specs.Laws.{marks_same, chosen_ranked}
@@ -19,7 +20,7 @@ use Rattle.run.specs.Numbers.{layer, ranks}
 use Rattle.run.specs.Cached.{selection}
 use Rattle.run.specs.Sound.{Sound, sound}
 use Rattle.run.specs.Questions.{refusal, layer_answer, certain, certain_answer, selection_answer}
-use Rattle.run.specs.SoundLaws.{sound_iff}
+use Rattle.run.proofs.SoundLaws.{sound_iff}
 
 module _ (r : Run) (p : ℕ) where
   pub question_unsound : sound r ≡ false → 1 ≡ refusal r p

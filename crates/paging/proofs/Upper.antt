@@ -10,9 +10,9 @@ use Rattle.paging.specs.Tests.{clash, isnt, is, same_or_not, le_or_lt}
 use Rattle.paging.specs.Count.{single, None, count_mono, count_cover, count_same, count_none, count_single, single_inside}
 use Rattle.paging.specs.Count.{count_pos, inside_same, remove_in, remove_was, remove_not, remove_self, count_remove}
 use Rattle.paging.specs.Count.{insert_in, insert_cases, insert_was, count_insert, without_in, without_was, without_not}
-use Rattle.paging.specs.Moves.{Moved, moved_cases, serve_cases, serve_layered}
+use Rattle.paging.proofs.Moves.{Moved, moved_cases, serve_cases, serve_layered}
 use Rattle.paging.specs.Certificate.{upto, upto_in, upto_member, upto_layer, held}
-use Rattle.paging.specs.Lower.{seen_of, start_fits}
+use Rattle.paging.proofs.Lower.{seen_of, start_fits}
 use Rattle.paging.specs.Choice.{Valid, between, Highest, highest_of}
 
 -- ---- a request of p: from a valid set C after it to a valid set before it

@@ -16,11 +16,11 @@ use Rattle.paging.specs.Selection.{chosen}
 use Rattle.paging.specs.Tests.{clash, is, same_test, bit_le, same_or_not, le_or_lt}
 use Rattle.paging.specs.Count.{remove_in, remove_was, remove_not, insert_self, insert_in, insert_cases}
 use Rattle.paging.specs.Tables.{table_at, table_past}
-use Rattle.paging.specs.Moves.{next_zero}
-use Rattle.paging.specs.Update.{no_zero}
-use Rattle.paging.specs.Theorems.{layers_stay, selection_justified, hit_selection, miss_victim, victim_cached}
-use Rattle.paging.specs.Theorems.{miss_selection}
-use Rattle.ranking.specs.Order.{outranks_ranking}
+use Rattle.paging.proofs.Moves.{next_zero}
+use Rattle.paging.proofs.Update.{no_zero}
+use Rattle.paging.proofs.Theorems.{layers_stay, selection_justified, hit_selection, miss_victim, victim_cached}
+use Rattle.paging.proofs.Theorems.{miss_selection}
+use Rattle.ranking.proofs.Order.{outranks_ranking}
 use Rattle.slots.specs.Slots.{no_page, seated}
 use Rattle.slots.specs.Laws.{seated_in, seated_was, seat_some, seat_found}
 use Rattle.begin.specs.Limits.{most_pages}
@@ -29,7 +29,7 @@ use Rattle.run.specs.Numbers.{layer, priority, in_slot, ranks}
 use Rattle.run.specs.Cached.{cached, slot_of, selection, victim_of}
 use Rattle.run.specs.Sound.{Sound}
 use Rattle.run.specs.Request.{counted, next_run}
-use Rattle.run.specs.SoundLaws.{run_layered}
+use Rattle.run.proofs.SoundLaws.{run_layered}
 
 -- ---- what a sound run is to the theory
 

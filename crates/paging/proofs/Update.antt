@@ -8,10 +8,11 @@ use Rattle.paging.specs.Layers.{next, Layered}
 use Rattle.paging.specs.Tests.{clash, isnt, le_or_lt}
 use Rattle.paging.specs.Count.{count_same, count_some, First, first_from, remove_in, remove_was, remove_not, count_remove}
 use Rattle.paging.specs.Count.{insert_self, insert_in, insert_was}
-use Rattle.paging.specs.Moves.{bar, bar_pos, bar_range, next_moved}
+use Rattle.paging.specs.Moves.{bar}
+use Rattle.paging.proofs.Moves.{bar_pos, bar_range, next_moved}
 use Rattle.paging.specs.Certificate.{upto, upto_in, upto_member, upto_layer, held, Justified}
 use Rattle.paging.specs.Rank.{Leader, flip, leader}
-use Rattle.paging.specs.Replace.{Swapped, Lowest, Replaced, replaced_justified}
+use Rattle.paging.proofs.Replace.{Swapped, Lowest, Replaced, replaced_justified}
 
 -- ---- the new set
 

@@ -14,9 +14,9 @@ use Rattle.paging.specs.Layers.{start_layer, next}
 use Rattle.paging.specs.Schedule.{Below, Least}
 use Rattle.paging.specs.Best.{State, after, seen, start}
 use Rattle.paging.specs.Tests.{truth, is, same_or_not, le_or_lt}
-use Rattle.paging.specs.Lower.{after_full}
-use Rattle.paging.specs.FullRuns.{serve_full_is, after_more, below_more, least_same}
-use Rattle.paging.specs.Theorems.{start_least}
+use Rattle.paging.proofs.Lower.{after_full}
+use Rattle.paging.proofs.FullRuns.{serve_full_is, after_more, below_more, least_same}
+use Rattle.paging.proofs.Theorems.{start_least}
 use Rattle.ranking.specs.Defaults.{default_priorities}
 use Rattle.counts.specs.Counts.{no_counts, most_served, more}
 use Rattle.run.specs.Numbers.{layer, in_slot}
@@ -24,12 +24,12 @@ use Rattle.run.specs.Cached.{cached, slot_of, selection, victim_of}
 use Rattle.run.specs.Sound.{Sound}
 use Rattle.run.specs.Start.{start_run, started, started_default}
 use Rattle.run.specs.Request.{served, counted, next_run, with_hit, with_miss, requested, tried}
-use Rattle.run.specs.SoundLaws.{sound_iff}
-use Rattle.run.specs.RequestLaws.{victim_in, slot_holds, counted_layers, hit_sound, victim_there, fresh_at, fresh_off}
-use Rattle.run.specs.RequestLaws.{swapped_set, miss_sound}
+use Rattle.run.proofs.SoundLaws.{sound_iff}
+use Rattle.run.proofs.RequestLaws.{victim_in, slot_holds, counted_layers, hit_sound, victim_there, fresh_at, fresh_off}
+use Rattle.run.proofs.RequestLaws.{swapped_set, miss_sound}
 use Rattle.run.specs.StartLaws.{start_layers_are, start_cached, start_sound, Accepted, accepted, started_sound}
-use Rattle.run.specs.Requesting.{request_refusal, refuse_page, refuse_served, refuse_none, not_refused, requested_refused}
-use Rattle.run.specs.Requesting.{requested_served}
+use Rattle.run.proofs.Requesting.{request_refusal, refuse_page, refuse_served, refuse_none, not_refused, requested_refused}
+use Rattle.run.proofs.Requesting.{requested_served}
 use Rattle.run.specs.History.{Begun, first_run, ComesFrom, begins, serves}
 
 -- ---- A request of a page below N, to a sound run that may serve one more, is a hit or a miss.

@@ -14,7 +14,7 @@ use Rattle.run.specs.Sound.{Sound, sound}
 use Rattle.serve.specs.Event.{values}
 use Rattle.run.specs.Cached.{cached, slot_of, victim_of}
 use Rattle.run.specs.Request.{served, requested, refused, with_hit, with_miss, refusal_values, miss_values, request_values}
-use Rattle.run.specs.SoundLaws.{sound_iff}
+use Rattle.run.proofs.SoundLaws.{sound_iff}
 
 -- 1, 8, 9, or 0.
 unfoldable pub request_refusal : Run → ℕ → ℕ

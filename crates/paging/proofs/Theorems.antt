@@ -11,18 +11,18 @@ use Rattle.paging.specs.Selection.{chosen}
 use Rattle.paging.specs.Victim.{reach, victim}
 use Rattle.paging.specs.Schedule.{Below, end, Least, Ends}
 use Rattle.paging.specs.Best.{State, after, seen, Start, start, cold}
-use Rattle.paging.specs.Moves.{next_layered}
-use Rattle.paging.specs.LayerSets.{New, Known, request_known, request_new}
+use Rattle.paging.proofs.Moves.{next_layered}
+use Rattle.paging.proofs.LayerSets.{New, Known, request_known, request_new}
 use Rattle.paging.specs.Certificate.{held, Justified, same_held, same_justified}
 use Rattle.paging.specs.Top.{rank}
 use Rattle.paging.specs.Unique.{unique, first_in}
-use Rattle.paging.specs.Chosen.{chosen_justified}
-use Rattle.paging.specs.Update.{hit_justified, miss_justified}
-use Rattle.paging.specs.Found.{victim_found, victim_evicts}
-use Rattle.paging.specs.Lower.{none_fewer, after_paid, after_layered, after_full, start_paid}
+use Rattle.paging.proofs.Chosen.{chosen_justified}
+use Rattle.paging.proofs.Update.{hit_justified, miss_justified}
+use Rattle.paging.proofs.Found.{victim_found, victim_evicts}
+use Rattle.paging.proofs.Lower.{none_fewer, after_paid, after_layered, after_full, start_paid}
 use Rattle.paging.specs.Choice.{Valid, some_valid}
-use Rattle.paging.specs.Upper.{reached}
-use Rattle.paging.specs.Begin.{start_of, cold_start}
+use Rattle.paging.proofs.Upper.{reached}
+use Rattle.paging.proofs.Begin.{start_of, cold_start}
 
 -- ---- The layers after a request are layered again: every layer 1 to k has a page, layer k exactly one.
 

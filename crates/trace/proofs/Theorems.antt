@@ -20,9 +20,11 @@ use Rattle.run.specs.Sound.{Sound}
 use Rattle.trace.specs.Layout.{most_requests, trace_header, trace_length, trace_bytes, pages_in, slots_in, requests_in, request_offset}
 use Rattle.trace.specs.Layout.{list_in, priorities_in, requests_of, offsets_right, trace_refusal, traced, request_word}
 use Rattle.trace.specs.Layout.{write_refusal, written, written_bytes}
-use Rattle.trace.specs.Reading.{header_refusal, header_none, header_refuses, header_holds, Header, right_two, start_of, start_refuses}
-use Rattle.trace.specs.Reading.{no_trace, traced_refused, request_there, asked}
-use Rattle.trace.specs.Writing.{header_length, trace_bytes_length, answer_refused, write_kept}
+use Rattle.trace.specs.Reading.{header_refusal}
+use Rattle.trace.proofs.Reading.{header_none, header_refuses, header_holds, Header, right_two, start_of, start_refuses}
+use Rattle.trace.specs.Reading.{no_trace, asked}
+use Rattle.trace.proofs.Reading.{traced_refused, request_there}
+use Rattle.trace.proofs.Writing.{header_length, trace_bytes_length, answer_refused, write_kept}
 
 -- ---- written and read back
 

@@ -12,9 +12,9 @@ use Rattle.words.specs.Laws.{Bytes}
 use Rattle.begin.specs.Limits.{most_pages, most_slots}
 use Rattle.begin.specs.Begin.{start_layers, start_priorities, start_slots}
 use Rattle.image.specs.Layout.{pages_in, slots_in, image_refusal, marks_agree}
-use Rattle.image.specs.Theorems.{Storable, stored_pages, stored_slots, stored_served, stored_hits, stored_misses}
-use Rattle.image.specs.Theorems.{stored_best, stored_accepted, stored_agree, stored_layer_table, stored_slot_table}
-use Rattle.image.specs.Theorems.{stored_priority_table, exact}
+use Rattle.image.proofs.Theorems.{Storable, stored_pages, stored_slots, stored_served, stored_hits, stored_misses}
+use Rattle.image.proofs.Theorems.{stored_best, stored_accepted, stored_agree, stored_layer_table, stored_slot_table}
+use Rattle.image.proofs.Theorems.{stored_priority_table, exact}
 use Rattle.counts.specs.Counts.{no_counts, most_served, more}
 use Rattle.run.specs.Numbers.{layer, blank_run}
 use Rattle.run.specs.Cached.{slot_of}
@@ -22,11 +22,11 @@ use Rattle.run.specs.Sound.{Sound, sound}
 use Rattle.run.specs.Start.{start_run, listed_run}
 use Rattle.run.specs.Request.{counted, next_run, requested}
 use Rattle.run.specs.Stored.{stored_bytes, image_counts, image_run, restored, image_of, store_refusal}
-use Rattle.run.specs.SoundLaws.{sound_iff}
+use Rattle.run.proofs.SoundLaws.{sound_iff}
 use Rattle.run.specs.StartLaws.{accepted}
-use Rattle.run.specs.Storing.{restored_accepted, stored_untouched}
+use Rattle.run.proofs.Storing.{restored_accepted, stored_untouched}
 use Rattle.run.specs.History.{Begun, ComesFrom, begins, serves}
-use Rattle.run.specs.Theorems.{hit_or_miss, told}
+use Rattle.run.proofs.Theorems.{hit_or_miss, told}
 
 -- What the types of a run's fields say of it: the lengths of its tables, and how wide its numbers are.
 pub record Typed (r : Run) : Type 0 where

@@ -4,7 +4,8 @@ use Rattle.std.specs.Prelude.{◌⊎◌, ◌↔◌, ◌≡◌, ℕ, suc, ◌+◌
 use Rattle.std.proofs.Common.{inl, inr, ⊎_elim, ap, ◌∙◌, arith}
 use Rattle.paging.specs.Layers.{next, Layered}
 use Rattle.paging.specs.Tests.{same_or_not, le_or_lt}
-use Rattle.paging.specs.Moves.{Moved, bar, bar_zero, bar_pos, next_moved}
+use Rattle.paging.specs.Moves.{bar}
+use Rattle.paging.proofs.Moves.{Moved, bar_zero, bar_pos, next_moved}
 
 -- Request p in L_0.
 pub record New (N k p : ℕ) (L L' : ℕ → ℕ) : Type 0 where

@@ -16,15 +16,15 @@ use Rattle.paging.specs.Tests.{truth, is, le_or_lt}
 use Rattle.words.specs.Words.{word_at, put}
 use Rattle.image.specs.Layout.{image_length, pages_in, slots_in, image_refusal, image_layers, image_slots}
 use Rattle.image.specs.Layout.{image_priorities, marks_agree}
-use Rattle.image.specs.Laws.{refusal_read}
+use Rattle.image.proofs.Laws.{refusal_read}
 use Rattle.run.specs.Numbers.{layer, blank_run}
 use Rattle.counts.specs.Counts.{most_served}
 use Rattle.run.specs.Sound.{Sound, sound}
 use Rattle.run.specs.Request.{requested, refused}
-use Rattle.run.specs.Requesting.{refuse_unsound, requested_refused}
-use Rattle.run.specs.Theorems.{refused_8, refused_9, never_refused}
+use Rattle.run.proofs.Requesting.{refuse_unsound, requested_refused}
+use Rattle.run.proofs.Theorems.{refused_8, refused_9, never_refused}
 use Rattle.run.specs.Stored.{stored_bytes, image_counts, image_run, image_described, no_run, restored, restore_refusal, reading_number, image_of, store_refusal, stored, after_reading, requested_in}
-use Rattle.run.specs.SoundLaws.{sound_iff}
+use Rattle.run.proofs.SoundLaws.{sound_iff}
 
 -- ---- reading
 

@@ -12,9 +12,10 @@ use Rattle.paging.specs.Victim.{cached_to, full, reach, lowest_to, victim}
 use Rattle.paging.specs.Tests.{isnt, and_in, and_left, and_right, positive}
 use Rattle.paging.specs.Count.{count_same}
 use Rattle.paging.specs.Words.{first_some, first_is, lowest_found}
-use Rattle.paging.specs.Moves.{bar, bar_zero, bar_pos}
+use Rattle.paging.specs.Moves.{bar}
+use Rattle.paging.proofs.Moves.{bar_zero, bar_pos}
 use Rattle.paging.specs.Certificate.{upto, upto_in, upto_member, upto_layer, held, Justified}
-use Rattle.paging.specs.Update.{no_zero, Evicts, some_victim}
+use Rattle.paging.proofs.Update.{no_zero, Evicts, some_victim}
 
 -- ---- the cached pages of layers 1 to j
 

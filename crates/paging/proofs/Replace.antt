@@ -7,7 +7,7 @@ use Rattle.paging.specs.Ranking.{Agrees}
 use Rattle.paging.specs.Tests.{clash, isnt, same_or_not, le_or_lt, before}
 use Rattle.paging.specs.Count.{count_mono, count_same, count_less, count_minus, remove_in, remove_was, remove_not}
 use Rattle.paging.specs.Count.{count_remove}
-use Rattle.paging.specs.Moves.{Moved}
+use Rattle.paging.proofs.Moves.{Moved}
 use Rattle.paging.specs.Certificate.{upto, upto_in, upto_member, upto_layer, held, Witness, Justified}
 
 -- the new set: m without v, with p

@@ -19,8 +19,8 @@ use Rattle.begin.specs.Limits.{most_pages, most_slots, limits_refusal}
 use Rattle.begin.specs.LimitLaws.{Limits, limits_none}
 use Rattle.image.specs.Layout.{mark_byte, image_header, image_length, image_bytes, pages_in, slots_in}
 use Rattle.image.specs.Layout.{offsets_right, image_refusal, image_layers, image_slots, image_priorities, marks_agree}
-use Rattle.image.specs.Laws.{Read, Offsets, mark_small, layer_of_mark, cached_of_mark, mark_of_byte, listed_part, header_length, list_length}
-use Rattle.image.specs.Laws.{offsets_in, refusal_none, refusal_read}
+use Rattle.image.proofs.Laws.{Read, Offsets, mark_small, layer_of_mark, cached_of_mark, mark_of_byte, listed_part, header_length, list_length}
+use Rattle.image.proofs.Laws.{offsets_in, refusal_none, refusal_read}
 
 -- ---- the tables of an image, entry by entry
 

@@ -8,7 +8,7 @@ use Rattle.paging.specs.Layers.{next}
 use Rattle.paging.specs.Schedule.{Below, Least}
 use Rattle.paging.specs.Best.{State, serve, after}
 use Rattle.paging.specs.Tests.{truth, positive}
-use Rattle.paging.specs.Upper.{loads_same}
+use Rattle.paging.proofs.Upper.{loads_same}
 
 -- a request to a full run: the layers move, and a page of L_0 adds 1 to best
 pub serve_full_is :

@@ -8,7 +8,7 @@ use Rattle.paging.specs.Best.{State, serve, after, seen, Start}
 use Rattle.paging.specs.Tests.{truth, le_or_lt}
 use Rattle.paging.specs.Count.{single, count_mono, count_cover, count_disjoint, count_none, count_single, single_inside}
 use Rattle.paging.specs.Count.{count_pos, count_one, without_in}
-use Rattle.paging.specs.Moves.{Moved, moved_cases, serve_cases, serve_layered}
+use Rattle.paging.proofs.Moves.{Moved, moved_cases, serve_cases, serve_layered}
 use Rattle.paging.specs.Certificate.{upto, upto_in, upto_member, upto_layer, held}
 
 -- A set S reached with c loads: where it has more pages of the low layers than they have room for, it has paid for each.

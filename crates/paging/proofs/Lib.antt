@@ -1,0 +1,12 @@
+pub mod Begin
+pub mod Chosen
+pub mod Examples
+pub mod Found
+pub mod FullRuns
+pub mod LayerSets
+pub mod Lower
+pub mod Moves
+pub mod Replace
+pub mod Theorems
+pub mod Update
+pub mod Upper
