@@ -128,9 +128,13 @@ def turn_words(text, clause_only):
     """eqb and the like by the names that clauses use, and their import from the Prelude."""
     lines = text.split("\n")
     found = set()
+    # an option's get_or is another word, and keeps its name
+    kept_word = {"get_or"} if re.search(r"Math\.Option\.\{[^}]*\bget_or\b", text) else set()
 
     def words(t):
         def one(m):
+            if m[1] in kept_word:
+                return m[1]
             found.add(ALIAS[m[1]])
             return ALIAS[m[1]]
         return re.sub(r"(?<![\w'.-])(eqb|ltb|leb|get_or)(?![\w'→≢-])", one, t)
@@ -143,7 +147,7 @@ def turn_words(text, clause_only):
         if m and (not clause_only or m[1].startswith("ghost")):
             if m[3] is not None:
                 names = [n.strip() for n in m[3].split(",") if n.strip()]
-                kept = [n for n in names if n not in ALIAS]
+                kept = [n for n in names if n not in ALIAS or n in kept_word]
                 if len(kept) != len(names):
                     if not kept:
                         if at is None:

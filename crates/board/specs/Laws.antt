@@ -7,7 +7,7 @@ use Rattle.serve.specs.declared.Event.{Event}
 use Rattle.serve.specs.declared.Event.TheVariants.{Hit, Miss, Refused}
 use Rattle.run.specs.declared.Run.{Run}
 use Rattle.run.specs.declared.Served.{Served}
-use Rattle.run.specs.declared.Reading.TheVariants.{Accepted, Refused as Unread}
+use Rattle.run.specs.declared.Reading.TheVariants.{Accepted}
 use Rattle.paging.specs.Tests.{truth, same_or_not}
 use Rattle.image.specs.Layout.{image_length, pages_in, slots_in, image_refusal, marks_agree}
 use Rattle.image.proofs.Laws.{Read, refusal_read}
@@ -15,11 +15,13 @@ use Rattle.counts.specs.Counts.{most_served}
 use Rattle.run.specs.Sound.{Sound, sound}
 use Rattle.run.proofs.SoundLaws.{sound_iff}
 use Rattle.run.specs.Request.{requested}
-use Rattle.run.proofs.Requesting.{request_refusal, not_refused, requested_refused}
+use Rattle.run.specs.Requesting.{request_refusal}
+use Rattle.run.proofs.Requesting.{not_refused, requested_refused}
 use Rattle.run.proofs.RequestLaws.{slot_holds, victim_in}
 use Rattle.run.specs.Stored.{image_run, restored, after_reading, requested_in}
 use Rattle.run.proofs.Storing.{run_pages, run_slots}
-use Rattle.run.proofs.Theorems.{IsHit, IsMiss, hit_or_miss, request_is_sound, pages_stay, slots_stay}
+use Rattle.run.specs.Theorems.{IsHit, IsMiss}
+use Rattle.run.proofs.Theorems.{hit_or_miss, request_is_sound, pages_stay, slots_stay}
 use Rattle.board.specs.Board.{Small, Fits, Settles}
 
 -- ---- an image that the reader accepts

@@ -5,7 +5,7 @@ use Rattle.std.proofs.Common.{inl, inr, ⊎_elim, sym, ap, subst, ◌∙◌, ari
 use Rattle.serve.specs.declared.Event.TheVariants.{Hit, Miss, Refused}
 use Rattle.run.specs.declared.Run.{Run}
 use Rattle.run.specs.declared.Served.{Served}
-use Rattle.run.specs.declared.Reading.TheVariants.{Accepted, Refused as Unread}
+use Rattle.run.specs.declared.Reading.TheVariants.{Accepted}
 use Rattle.paging.specs.Tests.{le_or_lt}
 use Rattle.paging.specs.Tables.{table_length, table_at, table_past}
 use Rattle.words.specs.Words.{word_at, put}
@@ -18,8 +18,10 @@ use Rattle.run.specs.Cached.{slot_of}
 use Rattle.run.specs.Sound.{Sound}
 use Rattle.run.specs.Request.{requested}
 use Rattle.run.specs.Stored.{image_counts, image_run, restored, image_of, after_reading, requested_in}
-use Rattle.run.proofs.StoredTheorems.{Typed, storable, stored_reads_back, typed_request}
-use Rattle.run.proofs.Theorems.{IsHit, IsMiss, request_is_sound}
+use Rattle.run.specs.StoredTheorems.{Typed}
+use Rattle.run.proofs.StoredTheorems.{storable, stored_reads_back, typed_request}
+use Rattle.run.specs.Theorems.{IsHit, IsMiss}
+use Rattle.run.proofs.Theorems.{request_is_sound}
 use Rattle.serve.specs.declared.Event.{Event}
 use Rattle.serve.specs.Event.{Values, values}
 use Rattle.board.specs.declared.Parts.{Parts}

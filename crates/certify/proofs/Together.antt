@@ -1,5 +1,5 @@
 -- The parts of the test put together: the certificate over the tables that the code makes, and all clauses. Assumes nothing.
-use mathlib.Core.Bool.{Bool, true, false, not, ◌||◌}
+use mathlib.Core.Bool.{Bool, true, false, ◌||◌}
 use mathlib.Core.List.{List}
 use mathlib.Core.Path.{◌≡◌, sym, ap, ◌∙◌}
 use Prim.Native.Nat.{ℕ, suc, ◌≤◌, ◌<◌}

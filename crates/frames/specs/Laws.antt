@@ -1,6 +1,6 @@
 -- The refusals of Fill and Look as the code finds them: first what both begin with, then the page's bytes, then its slot.
 -- Each law says what an answer of the code is. Assumes nothing.
-use Rattle.std.specs.Prelude.{Bool, true, false, List, [], ◌≡◌, ℕ, ◌+◌, ◌*◌, ◌-◌, ◌≤◌, ◌<◌, length, take, drop, nat_eq, nat_lt, slice_index_or}
+use Rattle.std.specs.Prelude.{Bool, true, false, List, [], ◌≡◌, ℕ, ◌+◌, ◌*◌, ◌-◌, ◌≤◌, ◌<◌, length, take, drop, nat_eq, nat_lt}
 use Rattle.std.proofs.Math.Option
 use Rattle.std.proofs.Math.Option.{Option, none, some}
 use Rattle.std.proofs.Math.Path.{Path, refl}

@@ -1,7 +1,9 @@
--- Laws that the proofs share. Assumes nothing.
---     Bits     a mark byte by shifts and masks
---     Seats    a loop that marks the pages in the slots
---     Stores   bytes, numbers and sections written one after the other
+-- Laws of the layout, and what the proofs share. Assumes nothing.
+--     Laws       mark bytes, the header's refusals
+--     Theorems   what is written reads back, and only the exact layout does
+--     Bits       a mark byte by shifts and masks
+--     Seats      a loop that marks the pages in the slots
+--     Stores     bytes, numbers and sections written one after the other
 pub mod Bits
 pub mod Seats
 pub mod Stores

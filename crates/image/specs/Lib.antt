@@ -1,2 +1,2 @@
--- The layout of a stored run: what must be believed, and the laws of it. Assumes nothing.
+-- The layout of a stored run: what must be believed. The laws of it stand in proofs/. Assumes nothing.
 pub mod Layout

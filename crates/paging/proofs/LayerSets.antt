@@ -1,31 +1,12 @@
 -- The layers after a request, set by set, as document 01 prints the two rules. `L' q ≡ j` says that q is in the new L_j.
 -- Assumes nothing.
-use Rattle.std.specs.Prelude.{◌⊎◌, ◌↔◌, ◌≡◌, ℕ, suc, ◌+◌, ◌-◌, ◌≤◌, ◌<◌}
+use Rattle.std.specs.Prelude.{◌⊎◌, ◌≡◌, ℕ, ◌+◌, ◌-◌, ◌≤◌, ◌<◌}
 use Rattle.std.proofs.Common.{inl, inr, ⊎_elim, ap, ◌∙◌, arith}
 use Rattle.paging.specs.Layers.{next, Layered}
 use Rattle.paging.specs.Tests.{same_or_not, le_or_lt}
 use Rattle.paging.specs.Moves.{bar}
 use Rattle.paging.proofs.Moves.{Moved, bar_zero, bar_pos, next_moved}
-
--- Request p in L_0.
-pub record New (N k p : ℕ) (L L' : ℕ → ℕ) : Type 0 where
-  -- L_k = {p};
-  pub top : (q : ℕ) → q < N → (L' q ≡ k) ↔ (q ≡ p)
-  -- p leaves L_0; L_k joins L_(k-1);
-  pub joins : (q : ℕ) → q < N → (L' q ≡ k - 1) ↔ ((q ≡ p → ⊥) × ((L q ≡ k - 1) ⊎ (L q ≡ k)))
-  -- every other layer stays, but for p.
-  pub stays : (j : ℕ) → suc j < k → (q : ℕ) → q < N → (L' q ≡ j) ↔ ((q ≡ p → ⊥) × (L q ≡ j))
-
--- Request p in L_i, i > 0.
-pub record Known (N k i p : ℕ) (L L' : ℕ → ℕ) : Type 0 where
-  -- L_k = {p};
-  pub top : (q : ℕ) → q < N → (L' q ≡ k) ↔ (q ≡ p)
-  -- L_i without p joins L_(i-1);
-  pub joins : (q : ℕ) → q < N → (L' q ≡ i - 1) ↔ ((L q ≡ i - 1) ⊎ ((L q ≡ i) × (q ≡ p → ⊥)))
-  -- each L_j for i ≤ j < k becomes the old L_(j+1);
-  pub becomes : (j : ℕ) → i ≤ j → j < k → (q : ℕ) → q < N → (L' q ≡ j) ↔ (L q ≡ suc j)
-  -- every layer below L_(i-1) stays.
-  pub stays : (j : ℕ) → suc j < i → (q : ℕ) → q < N → (L' q ≡ j) ↔ (L q ≡ j)
+use Rattle.paging.specs.LayerSets.{New, Known}
 
 module _ (N k p : ℕ) (L : ℕ → ℕ) (k_pos : 0 < k) (lay : Layered N k 0 L) (pN : p < N) where
   -- p itself, a page that sinks, a page that stays

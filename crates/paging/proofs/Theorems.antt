@@ -12,9 +12,9 @@ use Rattle.paging.specs.Victim.{reach, victim}
 use Rattle.paging.specs.Schedule.{Below, end, Least, Ends}
 use Rattle.paging.specs.Best.{State, after, seen, Start, start, cold}
 use Rattle.paging.proofs.Moves.{next_layered}
-use Rattle.paging.proofs.LayerSets.{New, Known, request_known, request_new}
+use Rattle.paging.specs.LayerSets.{New, Known}
+use Rattle.paging.proofs.LayerSets.{request_known, request_new}
 use Rattle.paging.specs.Certificate.{held, Justified, same_held, same_justified}
-use Rattle.paging.specs.Top.{rank}
 use Rattle.paging.specs.Unique.{unique, first_in}
 use Rattle.paging.proofs.Chosen.{chosen_justified}
 use Rattle.paging.proofs.Update.{hit_justified, miss_justified}

@@ -6,31 +6,22 @@
 --     Victim        which cached page makes room
 --     Schedule      schedules, their loads, the fewest loads
 --     Best          what the requests make of the layers and of best
---     Theorems      the main theorems
---     Examples      trace A, P5 and P7, computed over the definitions
--- Then what proves them. Facts about words:
+--     LayerSets     what document 01 says of the layers after a request, set by set
+-- Then facts about words:
 --     Tests         Booleans and comparisons
 --     Count         sizes of sets
 --     Words         each, any, first, lowest, only
 --     Tables        lists and tables of values, entry by entry
 -- about layers:
---     Moves         a request's move as one law, and that layers stay layered
---     LayerSets     the layers after a request, set by set
+--     Moves         the first layer that sinks
 -- about the selection:
 --     Certificate   what justifies a cached set
 --     Rank          the highest-ranking page of a set
 --     Top           the j highest-ranking pages of a set
 --     Unique        at most one set is justified
---     Chosen        the selection is justified
---     Replace       one page for another, in layers that sink
---     Update        a request: hit and miss keep the certificate
---     Found         the victim is found, and is the right one
 -- about the fewest loads:
---     Lower         no schedule has fewer than best
 --     Choice        the sets with room in every layer
---     Upper         each of them is the end of a schedule with exactly best
---     Begin         the starts
---     FullRuns      runs with no free slot, and one request more
+-- The theorems stand in proofs/, with what they need of each other.
 -- Assumes nothing.
 pub mod Sets
 pub mod Ranking
@@ -49,3 +40,4 @@ pub mod Rank
 pub mod Top
 pub mod Unique
 pub mod Choice
+pub mod LayerSets

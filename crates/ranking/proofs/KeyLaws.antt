@@ -1,10 +1,8 @@
 -- One number for a page and its priority, its key, that orders the pages as the ranking does; and what code below a run may rely on
 -- where it is given keys: the laws of `Keyed`, and nothing of priorities. Assumes nothing.
-use Rattle.std.specs.Prelude.{Bool, true, List, ◌↔◌, ◌≡◌, ℕ, ◌+◌, ◌*◌, ◌-◌, ◌%◌, ◌≤◌, ◌<◌, length, nat_lt, slice_index_or}
+use Rattle.std.specs.Prelude.{Bool, true, List, ◌↔◌, ◌≡◌, ℕ, ◌+◌, ◌*◌, ◌-◌, ◌≤◌, ◌<◌, length, nat_lt, slice_index_or}
 use Rattle.std.proofs.Common.{inl, inr, ⊎_elim, sym, ap, ◌∙◌, arith, ltb-true, lt-ltb}
-use Rattle.paging.specs.Sets.{◌<?◌, table}
 use Rattle.paging.specs.Tables.{table_at, table_length}
-use Rattle.paging.specs.Ranking.{Ranking}
 use Rattle.paging.specs.Tests.{same_test, le_or_lt}
 use Rattle.ranking.specs.Outranks.{above, outranks}
 use Rattle.ranking.proofs.Order.{Above, above_true, above_in, outranks_ranking}

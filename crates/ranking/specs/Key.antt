@@ -3,7 +3,6 @@
 use Rattle.std.specs.Prelude.{Bool, true, List, ◌↔◌, ◌≡◌, ℕ, ◌+◌, ◌*◌, ◌-◌, ◌%◌, ◌≤◌, ◌<◌, slice_index_or}
 use Rattle.paging.specs.Sets.{◌<?◌, table}
 use Rattle.paging.specs.Ranking.{Ranking}
-use Rattle.ranking.specs.Outranks.{outranks}
 
 unfoldable pub key_of : ℕ → ℕ → ℕ
 key_of priority page = priority * 1024 + (1023 - page)

@@ -25,7 +25,8 @@ use Rattle.run.proofs.SoundLaws.{sound_iff, run_counts}
 use Rattle.run.specs.Cached.{slot_of}
 use Rattle.run.specs.Request.{requested, next_run, counted}
 use Rattle.run.specs.History.{run_after}
-use Rattle.run.proofs.Requesting.{request_refusal, refusal_of_sound, refuse_page, refuse_served, refuse_none, requested_refused, requested_served}
+use Rattle.run.specs.Requesting.{request_refusal}
+use Rattle.run.proofs.Requesting.{refusal_of_sound, refuse_page, refuse_served, refuse_none, requested_refused, requested_served}
 use Rattle.run.specs.Serving.{RunKeys}
 use Rattle.run.proofs.Serving.{run_ready, run_ranked, step_taken}
 use Rattle.run.proofs.Theorems.{hit_or_miss, request_is_sound}

@@ -7,7 +7,7 @@ use borrow.Author.Tests.{lt-ltb, le-ltb, ltb-true}
 use Rattle.serve.specs.declared.Event.TheVariants.{Refused}
 use Rattle.run.specs.declared.Run.{Run}
 use Rattle.run.specs.declared.Served.{Served}
-use Rattle.paging.specs.Sets.{◌<?◌, if◌then◌else◌, unless◌give◌else◌}
+use Rattle.paging.specs.Sets.{if◌then◌else◌, unless◌give◌else◌}
 use Rattle.paging.specs.Tests.{truth}
 use Rattle.counts.specs.Counts.{most_served, page_refusal}
 use Rattle.run.specs.Sound.{Sound, sound}
@@ -15,14 +15,7 @@ use Rattle.serve.specs.Event.{values}
 use Rattle.run.specs.Cached.{cached, slot_of, victim_of}
 use Rattle.run.specs.Request.{served, requested, refused, with_hit, with_miss, refusal_values, miss_values, request_values}
 use Rattle.run.proofs.SoundLaws.{sound_iff}
-
--- 1, 8, 9, or 0.
-unfoldable pub request_refusal : Run → ℕ → ℕ
-request_refusal r p =
-    unless sound r give 1 else
-    unless p <? r.pages give 8 else
-    unless r.counts.served <? most_served give 9 else
-    0
+use Rattle.run.specs.Requesting.{request_refusal}
 
 -- ---- the paper's values of the answer
 

@@ -15,7 +15,7 @@ use Rattle.paging.specs.Tables.{table_length, table_at, table_past}
 use Rattle.layers.specs.Asked.{asked}
 use Rattle.layers.specs.Laws.{asked_length, asked_at, asked_past}
 use Rattle.begin.specs.Limits.{most_pages}
-use Rattle.ranking.specs.Key.{Keyed, Narrow, key_at, page_keys}
+use Rattle.ranking.specs.Key.{Keyed, key_at}
 use Rattle.ranking.proofs.KeyLaws.{ranks_keyed}
 use Rattle.slots.specs.Slots.{keys_of}
 use Rattle.serve.specs.Step.{Ready, Ranked, Steps, missed, replaced, event_of, held_after}

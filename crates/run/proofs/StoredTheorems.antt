@@ -27,14 +27,7 @@ use Rattle.run.specs.StartLaws.{accepted}
 use Rattle.run.proofs.Storing.{restored_accepted, stored_untouched}
 use Rattle.run.specs.History.{Begun, ComesFrom, begins, serves}
 use Rattle.run.proofs.Theorems.{hit_or_miss, told}
-
--- What the types of a run's fields say of it: the lengths of its tables, and how wide its numbers are.
-pub record Typed (r : Run) : Type 0 where
-  pub layers : length r.layer ≡ most_pages
-  pub priorities : length r.ranks.priority ≡ most_pages
-  pub slots : length r.held ≡ most_slots
-  pub wide : (q : ℕ) → slice_index_or r.ranks.priority q 0 ≤ 65535
-  pub best : r.counts.best ≤ 4294967295
+use Rattle.run.specs.StoredTheorems.{Typed}
 
 -- ---- What the image writer wrote, `restore` reads as the same run, for every sound run.
 

@@ -9,7 +9,6 @@ use Rattle.run.specs.declared.Run.{Run}
 use Rattle.run.specs.declared.Reading.TheVariants.{Accepted, Refused}
 use Rattle.run.specs.declared.Restored.{Restored}
 use Rattle.run.specs.declared.Served.{Served}
-use Rattle.serve.specs.declared.Event.TheVariants.{Refused as Declined}
 use Rattle.run.specs.declared.Stored.{Stored}
 use Rattle.paging.specs.Sets.{◌=?◌, unless◌give◌else◌}
 use Rattle.paging.specs.Tests.{truth, is, le_or_lt}

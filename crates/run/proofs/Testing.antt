@@ -2,7 +2,6 @@
 use Rattle.std.specs.Prelude.{Bool, true, false, ◌&&◌, List, ◌≡◌, ℕ, ◌≤◌, nat_eq}
 use Rattle.std.proofs.Math.Path.{sym}
 use Rattle.std.proofs.Common.{◌∙◌, eqb-true, eq-eqb, ne_eqb}
-use Rattle.paging.specs.Sets.{◌=?◌}
 use Rattle.paging.specs.Tests.{same_test, and_in, and_left, and_right}
 use Rattle.ranking.specs.declared.Ranks.{Ranks}
 use Rattle.ranking.specs.Key.{Keyed, Narrow, key_at, page_keys}

@@ -4,12 +4,12 @@ use Rattle.std.proofs.Math.Bool.{true}
 use Rattle.std.specs.Prelude.{false, List, [], ◌∷◌, ◌++◌, ◌⊎◌, ◌≡◌, refl, ℕ, ◌+◌, ◌≤◌, ◌<◌, set, nat_eq}
 use Rattle.std.proofs.Math.Logic.{inl, ⊎_elim}
 use Rattle.std.proofs.Common.{inr, sym, subst, ◌∙◌, arith}
-use Rattle.std.proofs.Math.Option.{Option, some}
-use Rattle.std.proofs.Math.Path.{Path, ap}
+use Rattle.std.proofs.Math.Option.{some}
+use Rattle.std.proofs.Math.Path.{ap}
 use Rattle.serve.specs.declared.Event.TheVariants.{Hit, Miss, Refused}
 use Rattle.run.specs.declared.Run.{Run}
 use Rattle.run.specs.declared.Served.{Served}
-use Rattle.paging.specs.Sets.{◌∈◌, bit, remove, insert}
+use Rattle.paging.specs.Sets.{bit, remove, insert}
 use Rattle.paging.specs.Layers.{start_layer, next}
 use Rattle.paging.specs.Schedule.{Below, Least}
 use Rattle.paging.specs.Best.{State, after, seen, start}
@@ -20,7 +20,7 @@ use Rattle.paging.proofs.Theorems.{start_least}
 use Rattle.ranking.specs.Defaults.{default_priorities}
 use Rattle.counts.specs.Counts.{no_counts, most_served, more}
 use Rattle.run.specs.Numbers.{layer, in_slot}
-use Rattle.run.specs.Cached.{cached, slot_of, selection, victim_of}
+use Rattle.run.specs.Cached.{cached, slot_of, selection}
 use Rattle.run.specs.Sound.{Sound}
 use Rattle.run.specs.Start.{start_run, started, started_default}
 use Rattle.run.specs.Request.{served, counted, next_run, with_hit, with_miss, requested, tried}
@@ -28,27 +28,13 @@ use Rattle.run.proofs.SoundLaws.{sound_iff}
 use Rattle.run.proofs.RequestLaws.{victim_in, slot_holds, counted_layers, hit_sound, victim_there, fresh_at, fresh_off}
 use Rattle.run.proofs.RequestLaws.{swapped_set, miss_sound}
 use Rattle.run.specs.StartLaws.{start_layers_are, start_cached, start_sound, Accepted, accepted, started_sound}
-use Rattle.run.proofs.Requesting.{request_refusal, refuse_page, refuse_served, refuse_none, not_refused, requested_refused}
+use Rattle.run.specs.Requesting.{request_refusal}
+use Rattle.run.proofs.Requesting.{refuse_page, refuse_served, refuse_none, not_refused, requested_refused}
 use Rattle.run.proofs.Requesting.{requested_served}
 use Rattle.run.specs.History.{Begun, first_run, ComesFrom, begins, serves}
+use Rattle.run.specs.Theorems.{IsHit, IsMiss}
 
 -- ---- A request of a page below N, to a sound run that may serve one more, is a hit or a miss.
-
--- A hit: p is cached, in the slot that is answered, and no slot changes.
-pub record IsHit (r : Run) (p : ℕ) : Type 0 where
-  pub cached_is : p ∈ cached r
-  pub slot_is : in_slot r (slot_of r p) ≡ p
-  pub event : (requested r p).event ≡ Hit (slot_of r p)
-  pub run : (requested r p).run ≡ counted r p 1 0 r.held
-
--- A miss: p is not cached; the victim is, in the slot that is answered, and p takes that slot.
-pub record IsMiss (r : Run) (p v : ℕ) : Type 0 where
-  pub not_cached : cached r p ≡ false
-  pub victim_is : Path (Option ℕ) (victim_of r p) (some v)
-  pub victim_cached : v ∈ cached r
-  pub slot_is : in_slot r (slot_of r v) ≡ v
-  pub event : (requested r p).event ≡ Miss (slot_of r v) v
-  pub run : (requested r p).run ≡ counted r p 0 1 (set r.held (slot_of r v) p)
 
 module _ (r : Run) (w : Sound r) (p : ℕ) (pN : p < r.pages) (room : r.counts.served < most_served) where
   answers : requested r p ≡ served r p

@@ -1,4 +1,4 @@
--- A request as the code takes it: the step's event and tables, and the counts by the kind of event. Assumes nothing.
+-- The keys that a request is given. Assumes nothing.
 use Rattle.std.specs.Prelude.{List, ◌≡◌, ℕ}
 use Rattle.run.specs.declared.Run.{Run}
 use Rattle.paging.specs.Sets.{table}

@@ -16,7 +16,7 @@ use Rattle.paging.specs.Moves.{bar}
 use Rattle.paging.proofs.Theorems.{miss_victim}
 use Rattle.layers.specs.Asked.{layer_at, asked, sunk}
 use Rattle.layers.specs.Laws.{asked_length, asked_at, asked_past}
-use Rattle.slots.specs.Slots.{no_page, seated, seat, found, near_of, keys_of}
+use Rattle.slots.specs.Slots.{no_page, seated, seat, near_of, keys_of}
 use Rattle.slots.specs.Laws.{seated_in, seat_some}
 use Rattle.serve.specs.Step.{slot, Ready, Ranked, victim_in, missed, replaced, event_of, held_after, least_page, search_to}
 use Rattle.serve.specs.Step.{Stepped}

@@ -13,7 +13,6 @@ use lib.ListN.{length, get_or, set, replicate, get_or-eq_default}
 use borrow.Author.Tests.{eqb-true, eq-eqb, ne_eqb, le-leb, lt-leb}
 use Rattle.paging.specs.Sets.{◌=?◌, ◌≤?◌, if◌then◌else◌, bit, count, or_else, first, listed}
 use Rattle.paging.specs.Tests.{clash, isnt, and_in, and_right, le_or_lt}
-use Rattle.paging.specs.Count.{count_most as count_at_most}
 use Rattle.paging.specs.Words.{first_some, first_is, first_same}
 use Rattle.ranking.specs.Key.{no_key}
 use Rattle.slots.specs.declared.Found.TheVariants.{At, Nowhere}

@@ -6,7 +6,7 @@ use Rattle.std.proofs.Math.Path.{sym, ap}
 use Rattle.std.proofs.Math.ListN.{drop}
 use Rattle.std.proofs.Math.Seq.{drop-length}
 use borrow.Author.Tests.{eqb-true, eqb-false, eq-eqb, ne_eqb, leb-true, le-leb, lt-leb}
-use Rattle.paging.specs.Sets.{◌=?◌, ◌≤?◌, unless◌give◌else◌, listed, table}
+use Rattle.paging.specs.Sets.{listed, table}
 use Rattle.paging.specs.Tests.{truth}
 use Rattle.paging.specs.Tables.{listed_length, listed_entry}
 use Rattle.words.specs.Words.{word_at}
@@ -14,7 +14,6 @@ use Rattle.begin.specs.Limits.{pages_fit, slots_fit, limits_refusal}
 use Rattle.begin.specs.Begin.{below, different}
 use Rattle.begin.specs.LimitLaws.{Limits, limits_hold, pages_within, slots_within}
 use Rattle.run.specs.declared.Started.{Started}
-use Rattle.run.specs.Numbers.{blank_run}
 use Rattle.run.specs.Start.{listed_run, started}
 use Rattle.run.specs.StartLaws.{accepted}
 use Rattle.trace.specs.declared.Traced.{Traced}

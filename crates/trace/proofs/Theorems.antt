@@ -25,12 +25,9 @@ use Rattle.trace.proofs.Reading.{header_none, header_refuses, header_holds, Head
 use Rattle.trace.specs.Reading.{no_trace, asked}
 use Rattle.trace.proofs.Reading.{traced_refused, request_there}
 use Rattle.trace.proofs.Writing.{header_length, trace_bytes_length, answer_refused, write_kept}
+use Rattle.trace.specs.Theorems.{Small, Says}
 
 -- ---- written and read back
-
--- every entry is a 16-bit number, as in a `&[u16]`
-pub record Small (vs : List ℕ) : Type 0 where
-  pub at : (i : ℕ) → i < length vs → slice_index_or vs i 0 ≤ 65535
 
 -- the default priorities are
 pub default_small : (N : ℕ) → Small (default_priorities N)
@@ -39,16 +36,6 @@ default_small N =
     record {
       at = λ i l. omega (arith, listed_length N default_priority, listed_entry N default_priority 0 i (omega (arith, listed_length N default_priority)));
     }
-
--- a file says what was written into it
-pub record Says (b : List ℕ) (N k : ℕ) (ps pr rs : List ℕ) : Type 0 where
-  pub refusal : trace_refusal b ≡ 0
-  pub pages : pages_in b ≡ N
-  pub slots : slots_in b ≡ k
-  pub list : list_in b ≡ ps
-  pub priorities : priorities_in b ≡ pr
-  pub requests : requests_of b ≡ rs
-  pub run : (traced b).run ≡ (started N k ps pr).run
 
 -- the numbers of a header
 header_word :

@@ -1,4 +1,4 @@
--- The reader as the code takes it: the header's refusals first, then those of a start with the lists that are read. Assumes nothing.
+-- The reader as the code takes it: the refusals of a header, the answer beside one, the requests one at a time. Assumes nothing.
 use Rattle.std.proofs.Math.Bool.{Bool}
 use Rattle.std.specs.Prelude.{List, ℕ, ◌≤◌, length}
 use Rattle.paging.specs.Sets.{◌=?◌, ◌≤?◌, unless◌give◌else◌, listed}

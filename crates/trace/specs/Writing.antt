@@ -1,4 +1,4 @@
--- The writer as the code takes it: its refusals, and the sections one after the other. Assumes nothing.
+-- What the writer asks of its input and its buffer. Assumes nothing.
 use Rattle.std.specs.Prelude.{List, ◌≡◌, ℕ, ◌+◌, ◌*◌, ◌≤◌}
 use Rattle.std.proofs.Math.ListN.{length}
 use Rattle.trace.specs.Layout.{most_requests}

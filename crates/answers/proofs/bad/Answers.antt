@@ -1,6 +1,5 @@
 -- `answers::bad` meets its contract. Assumes nothing.
 use Rattle.answers.specs.Answers.{bad_line}
-use borrow.Author.Rules.{rules}
 use Rattle.answers.proofs.bad.Goals as goal
 
 pub returns : goal.returns

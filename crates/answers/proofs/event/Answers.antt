@@ -1,7 +1,6 @@
 -- `answers::event` meets its contract. Assumes nothing.
 use Rattle.hexadecimal.specs.Laws.{wrote_then}
 use Rattle.answers.specs.Answers.{event_texts}
-use borrow.Author.Rules.{rules}
 use Rattle.answers.proofs.event.Goals as goal
 
 pub returns-in-Hit : goal.returns-in-Hit

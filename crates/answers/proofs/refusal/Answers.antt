@@ -1,6 +1,5 @@
 -- `answers::refusal` meets its contract. Assumes nothing.
 use Rattle.answers.specs.Answers.{refusal_texts}
-use borrow.Author.Rules.{rules}
 use Rattle.answers.proofs.refusal.Goals as goal
 
 pub returns : goal.returns

@@ -1,7 +1,6 @@
 -- `answers::then_bytes` meets its contract. Assumes nothing.
 use Rattle.hexadecimal.specs.Laws.{wrote_then}
 use Rattle.answers.specs.Answers.{bytes_texts}
-use borrow.Author.Rules.{rules}
 use Rattle.answers.proofs.then_bytes.Goals as goal
 
 pub returns : goal.returns

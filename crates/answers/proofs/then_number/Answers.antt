@@ -1,7 +1,6 @@
 -- `answers::then_number` meets its contract. Assumes nothing.
 use Rattle.hexadecimal.specs.Laws.{wrote_then}
 use Rattle.answers.specs.Answers.{number_texts}
-use borrow.Author.Rules.{rules}
 use Rattle.answers.proofs.then_number.Goals as goal
 
 pub returns : goal.returns

@@ -3,7 +3,6 @@ use Prim.Native.Nat.{ℕ}
 use lib.ListN.{length-replicate}
 use Rattle.answers.specs.Answers.{record_texts}
 use Rattle.answers.specs.Laws.{record_told}
-use borrow.Author.Rules.{rules}
 use Rattle.answers.proofs.then_record.Goals as goal
 
 pub returns : goal.returns

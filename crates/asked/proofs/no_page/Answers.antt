@@ -1,5 +1,4 @@
 -- `asked::no_page` meets its contract. Assumes nothing.
-use borrow.Author.Rules.{rules}
 use Rattle.asked.proofs.no_page.Goals as goal
 
 pub returns : goal.returns

@@ -1,5 +1,4 @@
 -- `asked::no_run` meets its contract. Assumes nothing.
-use borrow.Author.Rules.{rules}
 use Rattle.asked.proofs.no_run.Goals as goal
 
 pub returns : goal.returns

@@ -1,5 +1,4 @@
 -- `asked::read_number` meets its contract. Assumes nothing.
-use borrow.Author.Rules.{rules}
 use Rattle.asked.specs.Asked.{number_in}
 use Rattle.asked.proofs.read_number.Goals as goal
 

@@ -1,11 +1,9 @@
 -- `asked::read_paged` meets its contract, by what was read. Assumes nothing.
 use mathlib.Core.Option.{some}
 use mathlib.Core.Path.{◌≡◌, sym, ap, ◌∙◌}
-use borrow.Author.Tests.{not-true, not-false}
 use Rattle.fields.specs.Fields.{word_of}
 use Rattle.asked.specs.Asked.{run_of}
 use Rattle.asked.specs.Laws.{good_run, bad_run, no_run_paged, no_number_paged, all_paged, number_read}
-use borrow.Author.Rules.{rules}
 use Rattle.asked.proofs.read_paged.Goals as goal
 use Rattle.asked.proofs.read_paged.Goals.{Else-not-good}
 

@@ -1,6 +1,5 @@
 -- `asked::read_start` meets its contract, by what was read. Assumes nothing.
 use mathlib.Core.Path.{sym, ◌∙◌}
-use borrow.Author.Rules.{rules}
 use Rattle.asked.specs.Asked.{start_of}
 use Rattle.asked.specs.Laws.{no_pages_start, no_slots_start, no_list_start, all_start, number_read}
 use Rattle.asked.proofs.read_start.Goals as goal

@@ -1,8 +1,6 @@
 -- `asked::run_in` meets its contract; an image that is not refused has room for its tables. Assumes nothing.
 use mathlib.Core.Path.{◌≡◌, ◌∙◌}
 use native.Mathlib.Omega.{arith}
-use borrow.Author.Rules.{rules}
-use borrow.Author.Tests.{not-true, not-false}
 use Rattle.run.specs.Stored.{image_run}
 use Rattle.run.proofs.Storing.{image_fits, described_is, run_pages, run_slots, agree_in}
 use Rattle.asked.specs.Laws.{agreeing, differing}

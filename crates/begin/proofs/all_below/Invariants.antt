@@ -1,13 +1,6 @@
 -- `begin::all_below` meets its contract. The loop's invariant: every entry passed is below `pages`. Assumes nothing.
-use mathlib.Core.Path.{sym}
 use Prim.Native.Nat.{ℕ, ◌-◌, ◌≤◌, ◌<◌}
-use native.Mathlib.Omega.{arith}
 use lib.ListN.{length, get_or}
-use borrow.Author.Count.{below_more}
-use borrow.Author.Rules.{rules}
-use Rattle.paging.specs.Tests.{isnt}
-use Rattle.begin.specs.Begin.{below}
-use Rattle.begin.specs.Laws.{below_true, below_in}
 use Rattle.begin.proofs.all_below.Given as goal
 
 abbrev pub invariant-loop-i : goal.invariant-loop-i

@@ -1,9 +1,9 @@
 -- `begin::all_different` meets its contract. The loop's invariant: no entry passed stood before. Assumes nothing.
-use mathlib.Core.Bool.{Bool, true, false}
+use mathlib.Core.Bool.{true, false}
 use mathlib.Core.List.{List}
 use mathlib.Core.Logic.{⊎_elim}
 use mathlib.Core.Path.{◌≡◌, sym, ◌∙◌}
-use Prim.Native.Nat.{ℕ, ◌-◌, ◌≤◌, ◌<◌}
+use Prim.Native.Nat.{ℕ, ◌≤◌, ◌<◌}
 use native.Mathlib.Omega.{arith}
 use lib.Dec.{eqb}
 use lib.ListN.{length, get_or}
@@ -12,7 +12,6 @@ use borrow.Author.Count.{below_more}
 use borrow.Author.Rules.{rules}
 use Rattle.paging.specs.Tests.{clash, isnt, le_or_lt}
 use Rattle.paging.specs.Words.{any_true, any_in}
-use Rattle.paging.specs.Sets.{any}
 use Rattle.begin.specs.Begin.{different}
 use Rattle.begin.specs.Laws.{different_true, different_in}
 use Rattle.begin.proofs.all_different.Invariants.{again}

@@ -1,10 +1,7 @@
 -- `begin::default_priorities` meets its contract: after i turns the array is the table of the first i values. Assumes nothing.
-use mathlib.Core.Path.{◌≡◌, sym, ◌∙◌}
-use Prim.Native.Nat.{◌-◌, ◌≤◌}
+use mathlib.Core.Path.{sym, ◌∙◌}
 use native.Mathlib.Omega.{arith}
-use lib.ListN.{get_or}
 use borrow.Author.Rules.{rules}
-use Rattle.paging.specs.Sets.{table}
 use Rattle.ranking.specs.Defaults.{default_priorities}
 use Rattle.begin.specs.Begin.{start_priorities}
 use Rattle.paging.specs.Tables.{listed_entry}

@@ -1,14 +1,9 @@
 -- `begin::default_priorities` meets its contract: after i turns the array is the table of the first i values. Assumes nothing.
-use mathlib.Core.Path.{◌≡◌, sym, ◌∙◌}
+use mathlib.Core.Path.{◌≡◌}
 use Prim.Native.Nat.{◌-◌, ◌≤◌}
-use native.Mathlib.Omega.{arith}
 use lib.ListN.{get_or}
-use borrow.Author.Rules.{rules}
 use Rattle.paging.specs.Sets.{table}
 use Rattle.ranking.specs.Defaults.{default_priorities}
-use Rattle.begin.specs.Begin.{start_priorities}
-use Rattle.paging.specs.Tables.{listed_entry}
-use Rattle.paging.specs.Tables.{fill_none, fill_more, fill_all}
 use Rattle.begin.proofs.default_priorities.Given as goal
 
 abbrev pub invariant-loop-q : goal.invariant-loop-q

@@ -1,10 +1,7 @@
 -- `begin::layers_of` meets its contract: after i turns each entry is its page's place among the first i. Assumes nothing.
 use Prim.Native.Nat.{◌-◌, ◌≤◌}
-use native.Mathlib.Omega.{arith}
 use lib.ListN.{length}
-use borrow.Author.Rules.{rules}
-use Rattle.begin.specs.Laws.{below_true}
-use Rattle.begin.proofs.Places.{Placed, placed_none, placed_more, placed_all}
+use Rattle.begin.proofs.Places.{Placed}
 use Rattle.begin.proofs.layers_of.Given as goal
 
 abbrev pub invariant-loop-i : goal.invariant-loop-i

@@ -1,7 +1,6 @@
 -- `begin::list_refusal` meets its contract, by its tests in their order. Assumes nothing.
 use mathlib.Core.Path.{sym, ◌∙◌}
 use borrow.Author.Rules.{rules}
-use borrow.Author.Tests.{not-true, not-false}
 use Rattle.begin.proofs.RefusalLaws.{refuse_limits, refuse_entries, refuse_below, refuse_different, refuse_nothing}
 use Rattle.begin.proofs.list_refusal.Goals as goal
 

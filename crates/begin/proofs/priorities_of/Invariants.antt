@@ -1,12 +1,8 @@
 -- `begin::priorities_of` meets its contract: after i turns the array is the table of the first i values. Assumes nothing.
-use mathlib.Core.Path.{◌≡◌, refl}
+use mathlib.Core.Path.{◌≡◌}
 use Prim.Native.Nat.{◌-◌, ◌≤◌}
-use native.Mathlib.Omega.{arith}
 use lib.ListN.{get_or}
-use borrow.Author.Rules.{rules}
 use Rattle.paging.specs.Sets.{table}
-use Rattle.begin.specs.Begin.{start_priorities}
-use Rattle.paging.specs.Tables.{fill_none, fill_more, fill_all}
 use Rattle.begin.proofs.priorities_of.Given as goal
 
 abbrev pub invariant-loop-q : goal.invariant-loop-q

@@ -1,10 +1,6 @@
 -- `begin::slots_of` meets its contract: after i turns the array is the table of the first i values. Assumes nothing.
-use mathlib.Core.Path.{◌≡◌}
-use Prim.Native.Nat.{◌-◌, ◌≤◌}
 use native.Mathlib.Omega.{arith}
-use lib.ListN.{get_or}
 use borrow.Author.Rules.{rules}
-use Rattle.paging.specs.Sets.{table}
 use Rattle.begin.specs.Begin.{start_slots}
 use Rattle.paging.specs.Tables.{entry_any}
 use Rattle.paging.specs.Tables.{fill_none, fill_more, fill_all}

@@ -1,6 +1,5 @@
 -- `board::settle` meets its contract: beside a refusal nothing is written, else the next run's image. Assumes nothing.
 use mathlib.Core.Path.{sym, ap, ◌∙◌}
-use borrow.Author.Rules.{rules}
 use Rattle.run.specs.Stored.{image_of}
 use Rattle.board.specs.Board.{Small, packed}
 use Rattle.board.proofs.Answers.{untouched, written, write_fits, unrefused}

@@ -1,6 +1,5 @@
 -- `board::timonedra_serve` meets its contract: what is answered of the run in an image can be packed, and written over that image.
 -- Assumes nothing.
-use borrow.Author.Rules.{rules}
 use Rattle.board.specs.Laws.{settles}
 use Rattle.board.proofs.Answers.{answered, imaged}
 use Rattle.board.proofs.timonedra_serve.Goals as goal

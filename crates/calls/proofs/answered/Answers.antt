@@ -1,6 +1,5 @@
 -- `calls::answered` meets its contract, refused or not. Assumes nothing.
 use Rattle.calls.proofs.Steps.{refused_served, accepted_served}
-use borrow.Author.Rules.{rules}
 use Rattle.calls.proofs.answered.Goals as goal
 
 pub returns : goal.returns

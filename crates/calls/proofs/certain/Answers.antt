@@ -1,7 +1,6 @@
 -- `calls::certain` meets its contract, by what was read. Assumes nothing.
 use Rattle.answers.specs.Laws.{page_known, page_bad}
 use Rattle.calls.specs.Calls.{certain_answer, certain_texts}
-use borrow.Author.Rules.{rules}
 use Rattle.calls.proofs.certain.Goals as goal
 
 pub returns : goal.returns

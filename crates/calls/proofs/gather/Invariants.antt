@@ -1,9 +1,6 @@
 -- `calls::gather` meets its contract: the pages that are left, put behind those that are there, make the whole. Assumes nothing.
-use mathlib.Core.Path.{refl}
 use Prim.Native.Nat.{◌-◌, ◌≤◌}
-use native.Mathlib.Omega.{arith}
-use Rattle.calls.proofs.Steps.{Gathering, gathering_first, gathering_next, gathering_last}
-use borrow.Author.Rules.{rules}
+use Rattle.calls.proofs.Steps.{Gathering}
 use Rattle.calls.proofs.gather.Given as goal
 
 abbrev pub invariant-loop-q : goal.invariant-loop-q

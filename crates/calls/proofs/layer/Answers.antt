@@ -1,7 +1,6 @@
 -- `calls::layer` meets its contract, by what was read. Assumes nothing.
 use Rattle.answers.specs.Laws.{page_known, page_bad}
 use Rattle.calls.specs.Calls.{layer_answer, layer_texts}
-use borrow.Author.Rules.{rules}
 use Rattle.calls.proofs.layer.Goals as goal
 
 pub returns : goal.returns

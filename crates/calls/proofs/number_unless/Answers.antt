@@ -1,6 +1,5 @@
 -- `calls::number_unless` meets its contract, refused or not. Assumes nothing.
 use Rattle.answers.specs.Laws.{refused_wrote, accepted_wrote}
-use borrow.Author.Rules.{rules}
 use Rattle.calls.proofs.number_unless.Goals as goal
 
 pub returns-then-refusal-ne0 : goal.returns-then-refusal-ne0

@@ -1,7 +1,6 @@
 -- `calls::put_page` meets its contract, by its test. Assumes nothing.
 use mathlib.Core.Path.{refl}
 use native.Mathlib.Omega.{arith}
-use borrow.Author.Rules.{rules}
 use Rattle.calls.proofs.put_page.Goals as goal
 
 pub returns-then-is_in : goal.returns-then-is_in

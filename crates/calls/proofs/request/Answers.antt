@@ -1,7 +1,6 @@
 -- `calls::request` meets its contract, by what was read. Assumes nothing.
 use Rattle.answers.specs.Laws.{page_known, page_bad}
 use Rattle.calls.specs.Calls.{request_answer}
-use borrow.Author.Rules.{rules}
 use Rattle.calls.proofs.request.Goals as goal
 
 pub returns : goal.returns

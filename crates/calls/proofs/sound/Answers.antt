@@ -1,7 +1,6 @@
 -- `calls::sound` meets its contract, by what was read. Assumes nothing.
 use Rattle.answers.specs.Laws.{run_known, run_bad}
 use Rattle.calls.specs.Calls.{sound_answer}
-use borrow.Author.Rules.{rules}
 use Rattle.calls.proofs.sound.Goals as goal
 
 pub returns : goal.returns

@@ -1,7 +1,6 @@
 -- `calls::start` meets its contract, by what was read. Assumes nothing.
 use Rattle.answers.specs.Laws.{start_known, start_bad}
 use Rattle.calls.specs.Calls.{start_answer}
-use borrow.Author.Rules.{rules}
 use Rattle.calls.proofs.start.Goals as goal
 
 pub returns-then-not-words : goal.returns-then-not-words

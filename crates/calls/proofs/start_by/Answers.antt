@@ -1,7 +1,6 @@
 -- `calls::start_by` meets its contract, by its test. Assumes nothing.
 use Rattle.answers.specs.Laws.{same_wrote, other_wrote}
 use Rattle.calls.specs.Calls.{prioritised_texts}
-use borrow.Author.Rules.{rules}
 use Rattle.calls.proofs.start_by.Goals as goal
 
 pub returns-then-same : goal.returns-then-same

@@ -1,7 +1,6 @@
 -- `calls::started` meets its contract, refused or not. Assumes nothing.
 use Rattle.answers.specs.Laws.{refused_wrote, accepted_wrote}
 use Rattle.calls.specs.Calls.{started_texts}
-use borrow.Author.Rules.{rules}
 use Rattle.calls.proofs.started.Goals as goal
 
 pub returns-then-start-ne0 : goal.returns-then-start-ne0

@@ -1,7 +1,6 @@
 -- `calls::trial` meets its contract, by what was read. Assumes nothing.
 use Rattle.answers.specs.Laws.{page_known, page_bad}
 use Rattle.calls.specs.Calls.{trial_answer}
-use borrow.Author.Rules.{rules}
 use Rattle.calls.proofs.trial.Goals as goal
 
 pub returns : goal.returns

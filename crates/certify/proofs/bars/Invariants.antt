@@ -1,12 +1,9 @@
 -- `certify::bars` meets its contract. The loop's invariant, of any slots whose tables are read: the entries from j on are the bars
 -- of their layers, and `bar` is that of j. Assumes nothing.
 use mathlib.Core.List.{List}
-use mathlib.Core.Logic.{inl, inr, ⊎_elim}
-use mathlib.Core.Path.{◌∙◌}
 use Prim.Native.Nat.{ℕ, ◌+◌, ◌≤◌}
-use borrow.Author.Rules.{rules}
 use Rattle.certify.specs.ByLayer.{Tabled}
-use Rattle.certify.proofs.LayerBars.{count_at, low_at, Bars, bars_none, bars_more, bars_all}
+use Rattle.certify.proofs.LayerBars.{Bars}
 use Rattle.certify.proofs.bars.Given as goal
 
 abbrev pub invariant-loop-j : goal.invariant-loop-j

@@ -1,5 +1,4 @@
 -- `certify::ends_clear` meets its contract: it makes the parts of the test one by one. Assumes nothing.
-use borrow.Author.Rules.{rules}
 use Rattle.certify.specs.Test.{ends_clear}
 use Rattle.certify.proofs.Passes.{refused, granted, stop_left, go_on}
 use Rattle.certify.proofs.ends_clear.Goals as goal

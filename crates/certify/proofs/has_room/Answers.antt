@@ -1,10 +1,9 @@
 -- `certify::has_room` meets its contract. The loop's invariant: `room` says whether there is room in each layer passed. Assumes
 -- nothing.
-use mathlib.Core.Path.{◌≡◌, refl}
-use Prim.Native.Nat.{suc, ◌+◌, ◌-◌, ◌≤◌}
+use mathlib.Core.Path.{refl}
 use borrow.Author.Rules.{rules}
 use Rattle.paging.specs.Sets.{each}
-use Rattle.certify.proofs.Passes.{roomy, each_more, each_all}
+use Rattle.certify.proofs.Passes.{each_more, each_all}
 use Rattle.certify.proofs.has_room.Goals as goal
 
 pub loop-j-init : goal.loop-j-init

@@ -1,10 +1,9 @@
 -- `certify::has_room` meets its contract. The loop's invariant: `room` says whether there is room in each layer passed. Assumes
 -- nothing.
-use mathlib.Core.Path.{◌≡◌, refl}
+use mathlib.Core.Path.{◌≡◌}
 use Prim.Native.Nat.{suc, ◌+◌, ◌-◌, ◌≤◌}
-use borrow.Author.Rules.{rules}
 use Rattle.paging.specs.Sets.{each}
-use Rattle.certify.proofs.Passes.{roomy, each_more, each_all}
+use Rattle.certify.proofs.Passes.{roomy}
 use Rattle.certify.proofs.has_room.Given as goal
 
 abbrev pub invariant-loop-j : goal.invariant-loop-j

@@ -1,5 +1,4 @@
 -- `certify::in_time` meets its contract: each way out is one value of the test. Assumes nothing.
-use borrow.Author.Rules.{rules}
 use borrow.Author.Tests.{eq-eqb, ne_eqb}
 use Rattle.certify.proofs.in_time.Goals as goal
 

@@ -1,7 +1,6 @@
 -- `certify::layers_fit` meets its contract: it makes the parts of the test one by one. Assumes nothing.
 use Prim.Native.Nat.{ℕ}
 use mathlib.Core.Path.{ap}
-use borrow.Author.Rules.{rules}
 use lib.Dec.{eqb}
 use Rattle.certify.specs.Test.{layers_fit}
 use Rattle.certify.proofs.Passes.{first_fails, second_fails, third_decides}

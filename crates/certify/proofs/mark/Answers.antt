@@ -1,11 +1,10 @@
 -- `certify::mark` meets its contract. The loop's invariant: the slots passed hold different pages below N, and these are marked.
 -- Assumes nothing.
-use Prim.Native.Nat.{◌-◌, ◌≤◌}
 use mathlib.Core.Path.{refl}
 use native.Mathlib.Omega.{arith}
 use borrow.Author.Rules.{rules}
 use Rattle.paging.specs.Tests.{clash}
-use Rattle.certify.proofs.Marks.{Marked, marked_none, marked_more, no_seat, twice, seats_all, marks_all}
+use Rattle.certify.proofs.Marks.{marked_none, marked_more, no_seat, twice, seats_all, marks_all}
 use Rattle.certify.proofs.mark.Goals as goal
 
 pub loop-s-init : goal.loop-s-init

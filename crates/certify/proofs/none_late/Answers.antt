@@ -1,11 +1,11 @@
 -- `certify::none_late` meets its contract. The loop's invariant: `all` says whether each page passed is in time. Assumes nothing.
-use Prim.Native.Nat.{◌-◌, ◌≤◌}
-use mathlib.Core.Path.{◌≡◌, refl, ◌∙◌}
+use Prim.Native.Nat.{◌≤◌}
+use mathlib.Core.Path.{refl, ◌∙◌}
 use native.Mathlib.Omega.{arith}
 use lib.ListN.{get_or}
 use borrow.Author.Rules.{rules}
 use Rattle.paging.specs.Sets.{each}
-use Rattle.certify.proofs.Passes.{each_more, each_all, timely}
+use Rattle.certify.proofs.Passes.{each_more, each_all}
 use Rattle.certify.proofs.none_late.Goals as goal
 use Rattle.certify.proofs.none_late.Goals.{In-loop-q}
 

@@ -1,11 +1,8 @@
 -- `certify::none_late` meets its contract. The loop's invariant: `all` says whether each page passed is in time. Assumes nothing.
 use Prim.Native.Nat.{◌-◌, ◌≤◌}
-use mathlib.Core.Path.{◌≡◌, refl, ◌∙◌}
-use native.Mathlib.Omega.{arith}
-use lib.ListN.{get_or}
-use borrow.Author.Rules.{rules}
+use mathlib.Core.Path.{◌≡◌}
 use Rattle.paging.specs.Sets.{each}
-use Rattle.certify.proofs.Passes.{each_more, each_all, timely}
+use Rattle.certify.proofs.Passes.{timely}
 use Rattle.certify.proofs.none_late.Given as goal
 
 abbrev pub invariant-loop-q : goal.invariant-loop-q

@@ -2,7 +2,6 @@
 -- decides. Assumes nothing.
 use mathlib.Core.Path.{◌≡◌, sym, ◌∙◌}
 use borrow.Author.Rules.{rules}
-use borrow.Author.Tests.{not-false}
 use mathlib.Core.Bool.{true}
 use Rattle.certify.specs.Test.{layers_fit, ends_clear}
 use Rattle.certify.specs.Tables.{seats_fit}

@@ -1,5 +1,4 @@
 -- `counts::counted` meets its contract, by the kind of event. Assumes nothing.
-use borrow.Author.Rules.{rules}
 use Rattle.counts.specs.Counts.{turned}
 use Rattle.counts.specs.Laws.{turned_hit, turned_miss}
 use Rattle.counts.proofs.counted.Goals as goal

@@ -1,10 +1,8 @@
 -- `fields::copy` meets its contract. The loop's invariant: the first i bytes stand where they belong. Assumes nothing.
-use Prim.Native.Nat.{◌-◌, ◌≤◌}
-use mathlib.Core.Path.{◌≡◌, refl, sym}
-use lib.ListN.{length}
+use Prim.Native.Nat.{◌-◌}
+use mathlib.Core.Path.{refl, sym}
 use borrow.Author.Rules.{rules}
-use lib.ListN.{take, length-set}
-use Rattle.words.specs.Words.{put}
+use lib.ListN.{length-set}
 use Rattle.words.specs.Laws.{put_none}
 use Rattle.fields.proofs.Steps.{copy_more, copy_all}
 use Rattle.fields.proofs.copy.Goals as goal

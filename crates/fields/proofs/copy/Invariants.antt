@@ -1,12 +1,9 @@
 -- `fields::copy` meets its contract. The loop's invariant: the first i bytes stand where they belong. Assumes nothing.
 use Prim.Native.Nat.{◌-◌, ◌≤◌}
-use mathlib.Core.Path.{◌≡◌, refl, sym}
+use mathlib.Core.Path.{◌≡◌}
 use lib.ListN.{length}
-use borrow.Author.Rules.{rules}
-use lib.ListN.{take, length-set}
+use lib.ListN.{take}
 use Rattle.words.specs.Words.{put}
-use Rattle.words.specs.Laws.{put_none}
-use Rattle.fields.proofs.Steps.{copy_more, copy_all}
 use Rattle.fields.proofs.copy.Given as goal
 
 abbrev pub invariant-loop-i : goal.invariant-loop-i

@@ -1,12 +1,9 @@
 -- `fields::end_of` meets its contract. The loop's invariant: what is left has as many before its separator as the answer is off.
 -- Assumes nothing.
-use Prim.Native.Nat.{◌+◌, ◌-◌, ◌≤◌}
-use mathlib.Core.Path.{◌≡◌, refl}
+use Prim.Native.Nat.{◌-◌}
+use mathlib.Core.Path.{refl}
 use native.Mathlib.Omega.{arith}
-use lib.ListN.{length}
 use borrow.Author.Rules.{rules}
-use lib.ListN.{drop}
-use Rattle.fields.specs.Fields.{before}
 use Rattle.fields.proofs.Steps.{before_here, before_more, before_end}
 use Rattle.fields.proofs.end_of.Goals as goal
 

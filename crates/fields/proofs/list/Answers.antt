@@ -1,13 +1,10 @@
 -- `fields::list` meets its contract: what is left, read behind what is there, makes the whole. Assumes nothing.
 use Prim.Native.Nat.{◌-◌, ◌%◌}
-use mathlib.Core.Bool.{false}
 use mathlib.Core.Path.{◌≡◌, sym, ◌∙◌}
 use native.Mathlib.Omega.{arith}
-use lib.ListN.{length}
 use borrow.Author.Rules.{rules}
-use Rattle.fields.specs.Fields.{none_word}
 use Rattle.fields.specs.Laws.{number_most}
-use Rattle.fields.proofs.Lists.{Reading, reading_first, no_numbers, reading_full, reading_bad, reading_last, reading_next}
+use Rattle.fields.proofs.Lists.{reading_first, no_numbers, reading_full, reading_bad, reading_last, reading_next}
 use Rattle.fields.proofs.list.Goals as goal
 
 pub returns-then-is_none : goal.returns-then-is_none

@@ -1,13 +1,10 @@
 -- `fields::list` meets its contract: what is left, read behind what is there, makes the whole. Assumes nothing.
-use Prim.Native.Nat.{◌-◌, ◌%◌}
+use Prim.Native.Nat.{◌-◌}
 use mathlib.Core.Bool.{false}
-use mathlib.Core.Path.{◌≡◌, sym, ◌∙◌}
-use native.Mathlib.Omega.{arith}
+use mathlib.Core.Path.{◌≡◌}
 use lib.ListN.{length}
-use borrow.Author.Rules.{rules}
 use Rattle.fields.specs.Fields.{none_word}
-use Rattle.fields.specs.Laws.{number_most}
-use Rattle.fields.proofs.Lists.{Reading, reading_first, no_numbers, reading_full, reading_bad, reading_last, reading_next}
+use Rattle.fields.proofs.Lists.{Reading}
 use Rattle.fields.proofs.list.Given as goal
 
 abbrev pub invariant-loop-n : goal.invariant-loop-n

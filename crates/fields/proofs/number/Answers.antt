@@ -1,11 +1,8 @@
 -- `fields::number` meets its contract. The loop's invariant: with the number so far, what is left decides. Assumes nothing.
-use Prim.Native.Nat.{◌-◌, ◌≤◌}
-use mathlib.Core.Path.{◌≡◌, refl, sym, ◌∙◌}
+use Prim.Native.Nat.{◌-◌}
+use mathlib.Core.Path.{refl, sym, ◌∙◌}
 use native.Mathlib.Omega.{arith}
-use lib.ListN.{length}
 use borrow.Author.Rules.{rules}
-use lib.ListN.{drop}
-use Rattle.fields.specs.Fields.{number_from}
 use Rattle.fields.specs.Laws.{number_first}
 use Rattle.fields.proofs.Steps.{number_none, char_low, char_high, digit_more, number_end, number_large}
 use Rattle.fields.proofs.number.Goals as goal

@@ -1,11 +1,7 @@
 -- `fields::start_of` meets its contract. The loop's invariant: what is left of the line has the word at what is left of its number.
 -- Assumes nothing.
-use Prim.Native.Nat.{◌≤◌}
 use mathlib.Core.Path.{◌≡◌, refl, ◌∙◌}
-use lib.ListN.{length}
 use borrow.Author.Rules.{rules}
-use lib.ListN.{drop}
-use Rattle.fields.specs.Fields.{word_of}
 use Rattle.fields.proofs.Steps.{word_next, word_past}
 use Rattle.fields.proofs.start_of.Goals as goal
 

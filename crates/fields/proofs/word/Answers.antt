@@ -1,6 +1,5 @@
 -- `fields::word` meets its contract. Assumes nothing.
 use mathlib.Core.Path.{◌∙◌}
-use borrow.Author.Rules.{rules}
 use Rattle.fields.proofs.Steps.{word_here}
 use Rattle.fields.proofs.word.Goals as goal
 

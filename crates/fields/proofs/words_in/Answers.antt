@@ -1,12 +1,7 @@
 -- `fields::words_in` meets its contract. The loop's invariant: those counted and those that are left are all. Assumes nothing.
-use Prim.Native.Nat.{suc, ◌+◌, ◌-◌, ◌≤◌}
-use mathlib.Core.Path.{◌≡◌}
+use Prim.Native.Nat.{◌-◌}
 use native.Mathlib.Omega.{arith}
-use lib.ListN.{length}
 use borrow.Author.Rules.{rules}
-use mathlib.Core.Logic.{⊎_elim}
-use lib.ListN.{drop}
-use Rattle.fields.specs.Fields.{separators}
 use Rattle.fields.proofs.Steps.{one_here, none_here, none_left}
 use Rattle.fields.proofs.words_in.Goals as goal
 use Rattle.fields.proofs.words_in.Goals.{then-line-i-eq32, else-line-i-eq32}

@@ -1,13 +1,9 @@
 -- `fields::words_in` meets its contract. The loop's invariant: those counted and those that are left are all. Assumes nothing.
 use Prim.Native.Nat.{suc, ◌+◌, ◌-◌, ◌≤◌}
 use mathlib.Core.Path.{◌≡◌}
-use native.Mathlib.Omega.{arith}
 use lib.ListN.{length}
-use borrow.Author.Rules.{rules}
-use mathlib.Core.Logic.{⊎_elim}
 use lib.ListN.{drop}
 use Rattle.fields.specs.Fields.{separators}
-use Rattle.fields.proofs.Steps.{one_here, none_here, none_left}
 use Rattle.fields.proofs.words_in.Given as goal
 
 abbrev pub invariant-loop-i : goal.invariant-loop-i

@@ -1,8 +1,7 @@
 -- `fields::write_more` meets its contract: what is left, written behind what is there, makes the whole. Assumes nothing.
 use Prim.Native.Nat.{◌-◌}
 use lib.ListN.{length}
-use borrow.Author.Rules.{rules}
-use Rattle.fields.proofs.Lists.{Listing, listing_first, listing_next, listing_last}
+use Rattle.fields.proofs.Lists.{Listing}
 use Rattle.fields.proofs.write_more.Given as goal
 
 abbrev pub invariant-loop-i : goal.invariant-loop-i

@@ -1,6 +1,5 @@
 -- `fields::write_number` meets its contract: what is copied are the digits. Assumes nothing.
 use native.Mathlib.Omega.{arith}
-use borrow.Author.Rules.{rules}
 use Rattle.text.specs.Laws.{decimal_short}
 use Rattle.fields.specs.Reading.{first_put}
 use Rattle.fields.proofs.write_number.Goals as goal

@@ -2,7 +2,6 @@
 use Rattle.hexadecimal.specs.Laws.{wrote_then}
 use Rattle.answers.specs.Answers.{refusal_texts}
 use Rattle.files.specs.Files.{boarded_texts}
-use borrow.Author.Rules.{rules}
 use Rattle.files.proofs.boarded.Goals as goal
 
 pub returns : goal.returns

@@ -1,7 +1,6 @@
 -- `files::fill` meets its contract, by what was read. Assumes nothing.
 use Rattle.answers.specs.Laws.{page_known, page_bad}
 use Rattle.files.specs.Files.{fill_answer}
-use borrow.Author.Rules.{rules}
 use Rattle.files.proofs.fill.Goals as goal
 
 pub returns-then-not-paged : goal.returns-then-not-paged

@@ -1,7 +1,6 @@
 -- `files::image_read` meets its contract, refused or not. Assumes nothing.
 use Rattle.hexadecimal.specs.Laws.{wrote_then}
 use Rattle.files.specs.Files.{reading_texts, restored_texts}
-use borrow.Author.Rules.{rules}
 use Rattle.files.proofs.image_read.Goals as goal
 
 pub returns-in-Accepted : goal.returns-in-Accepted

@@ -1,7 +1,6 @@
 -- `files::look` meets its contract, by what was read. Assumes nothing.
 use Rattle.answers.specs.Laws.{page_known, page_bad, bytes_known, bytes_bad}
 use Rattle.files.specs.Files.{look_answer}
-use borrow.Author.Rules.{rules}
 use Rattle.files.proofs.look.Goals as goal
 
 pub returns-in_default : goal.returns-in_default

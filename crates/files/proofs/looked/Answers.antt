@@ -1,7 +1,6 @@
 -- `files::looked` meets its contract, by its calls in their order. Assumes nothing.
 use Rattle.hexadecimal.specs.Laws.{wrote_then}
 use Rattle.files.specs.Files.{looked_texts}
-use borrow.Author.Rules.{rules}
 use Rattle.files.proofs.looked.Goals as goal
 
 pub returns : goal.returns

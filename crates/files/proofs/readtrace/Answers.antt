@@ -1,7 +1,6 @@
 -- `files::readtrace` meets its contract, by what was read. Assumes nothing.
 use Rattle.answers.specs.Laws.{bytes_known, bytes_bad}
 use Rattle.files.specs.Files.{readtrace_answer}
-use borrow.Author.Rules.{rules}
 use Rattle.files.proofs.readtrace.Goals as goal
 
 pub returns-in_default : goal.returns-in_default

@@ -1,5 +1,5 @@
 -- `files::serve_board` meets its contract, by what was read. Assumes nothing.
-use mathlib.Core.Path.{◌≡◌, refl, sym, ◌∙◌}
+use mathlib.Core.Path.{◌≡◌, refl, sym}
 use native.Mathlib.Omega.{arith}
 use lib.ListN.{length}
 use Rattle.fields.specs.Reading.{part_is, bytes_few}

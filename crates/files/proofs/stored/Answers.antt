@@ -1,6 +1,5 @@
 -- `files::stored` meets its contract, by its calls in their order. Assumes nothing.
 use Rattle.files.specs.Files.{stored_texts}
-use borrow.Author.Rules.{rules}
 use Rattle.files.proofs.stored.Goals as goal
 
 pub returns : goal.returns

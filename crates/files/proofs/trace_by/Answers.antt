@@ -1,7 +1,6 @@
 -- `files::trace_by` meets its contract, by its test. Assumes nothing.
 use Rattle.answers.specs.Laws.{same_wrote, other_wrote}
 use Rattle.files.specs.Files.{trace_texts, prioritised_texts}
-use borrow.Author.Rules.{rules}
 use Rattle.files.proofs.trace_by.Goals as goal
 
 pub returns-then-same : goal.returns-then-same

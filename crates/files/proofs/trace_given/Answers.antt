@@ -2,7 +2,6 @@
 use mathlib.Core.Path.{refl}
 use Rattle.answers.specs.Laws.{numbers_known, numbers_bad}
 use Rattle.files.specs.Files.{trace_texts, given_texts}
-use borrow.Author.Rules.{rules}
 use Rattle.files.proofs.trace_given.Goals as goal
 
 pub returns-in_default : goal.returns-in_default

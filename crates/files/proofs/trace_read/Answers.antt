@@ -2,7 +2,6 @@
 use Rattle.hexadecimal.specs.Laws.{wrote_then}
 use Rattle.answers.specs.Laws.{refused_wrote, accepted_wrote}
 use Rattle.files.specs.Files.{traced_texts}
-use borrow.Author.Rules.{rules}
 use Rattle.files.proofs.trace_read.Goals as goal
 
 pub returns-then-traced-ne0 : goal.returns-then-traced-ne0

@@ -1,7 +1,6 @@
 -- `files::writetrace` meets its contract, by what was read. Assumes nothing.
 use Rattle.answers.specs.Laws.{start_known, start_bad}
 use Rattle.files.specs.Files.{writetrace_answer}
-use borrow.Author.Rules.{rules}
 use Rattle.files.proofs.writetrace.Goals as goal
 
 pub returns-then-not-words : goal.returns-then-not-words

@@ -2,7 +2,6 @@
 use Rattle.hexadecimal.specs.Laws.{wrote_then}
 use Rattle.answers.specs.Laws.{refused_wrote, accepted_wrote}
 use Rattle.files.specs.Files.{written_texts}
-use borrow.Author.Rules.{rules}
 use Rattle.files.proofs.written.Goals as goal
 
 pub returns-then-refusal-ne0 : goal.returns-then-refusal-ne0

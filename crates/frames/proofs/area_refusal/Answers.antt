@@ -3,7 +3,6 @@ use mathlib.Core.Bool.{true}
 use mathlib.Core.Path.{◌≡◌, sym, ◌∙◌}
 use native.Mathlib.Omega.{arith}
 use borrow.Author.Rules.{rules}
-use borrow.Author.Tests.{not-true, not-false}
 use Rattle.run.specs.Sound.{sound}
 use Rattle.run.proofs.SoundLaws.{sound_iff}
 use Rattle.frames.specs.Laws.{area_unsound, area_page, area_size, area_right}

@@ -1,10 +1,9 @@
 -- `frames::copy_page` meets its contract. The loop's invariant: the first i bytes are copied, and the rest is as it was.
 -- Assumes nothing.
-use mathlib.Core.Path.{◌≡◌, refl, sym}
-use Prim.Native.Nat.{◌-◌, ◌≤◌}
+use mathlib.Core.Path.{refl, sym}
+use Prim.Native.Nat.{◌-◌}
 use borrow.Author.Rules.{rules}
-use lib.ListN.{length, take, length-set}
-use Rattle.words.specs.Words.{put}
+use lib.ListN.{length-set}
 use Rattle.words.specs.Laws.{put_none}
 use Rattle.frames.proofs.Copy.{copy_more, copy_all}
 use Rattle.frames.proofs.copy_page.Goals as goal

@@ -1,5 +1,4 @@
 -- `frames::fill` meets its contract, by its tests, and by what the copy leaves of the area. Assumes nothing.
-use mathlib.Core.Path.{sym, ◌∙◌}
 use native.Mathlib.Omega.{arith}
 use borrow.Author.Rules.{rules}
 use lib.ListN.{length, length-take, length-drop}

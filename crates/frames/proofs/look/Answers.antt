@@ -1,5 +1,4 @@
 -- `frames::look` meets its contract, by its tests. Assumes nothing.
-use mathlib.Core.Path.{sym, ◌∙◌}
 use native.Mathlib.Omega.{arith}
 use borrow.Author.Rules.{rules}
 use lib.ListN.{length}

@@ -1,5 +1,4 @@
 -- `frames::look_refusal` meets its contract, by its tests. Assumes nothing.
-use mathlib.Core.Path.{sym, ◌∙◌}
 use borrow.Author.Rules.{rules}
 use lib.ListN.{length}
 use Rattle.frames.specs.Laws.{Begun, area_passed, frame, look_stopped, look_away, look_none}

@@ -1,11 +1,7 @@
 -- `hexadecimal::are_digits` meets its contract. The loop's invariant: what is left of the word decides. Assumes nothing.
-use Prim.Native.Nat.{◌-◌, ◌≤◌}
-use mathlib.Core.Path.{◌≡◌, refl, sym, ◌∙◌}
+use mathlib.Core.Path.{refl, sym, ◌∙◌}
 use native.Mathlib.Omega.{arith}
-use lib.ListN.{length}
 use borrow.Author.Rules.{rules}
-use lib.ListN.{drop}
-use Rattle.hexadecimal.specs.Hex.{all_digits}
 use Rattle.hexadecimal.proofs.Steps.{digits_more, digits_fail, digits_end}
 use Rattle.hexadecimal.proofs.are_digits.Goals as goal
 

@@ -1,5 +1,4 @@
 -- `hexadecimal::digit` meets its contract, by its test. Assumes nothing.
-use borrow.Author.Rules.{rules}
 use borrow.Author.Tests.{lt-ltb, le-ltb}
 use Rattle.hexadecimal.specs.Hex.{digit_of}
 use Rattle.hexadecimal.proofs.digit.Goals as goal

@@ -2,7 +2,6 @@
 use mathlib.Core.Path.{sym, ◌∙◌}
 use native.Mathlib.Omega.{arith}
 use borrow.Author.Rules.{rules}
-use borrow.Author.Tests.{not-true, not-false}
 use Rattle.hexadecimal.specs.Laws.{word_refused, word_read, odd_unreadable, long_unreadable, other_unreadable, pairs_readable}
 use Rattle.hexadecimal.proofs.read.Goals as goal
 

@@ -1,13 +1,10 @@
 -- `hexadecimal::read_pairs` meets its contract. The loop's invariant: the first i bytes stand at the start. Assumes nothing.
 use Prim.Native.Nat.{◌-◌, ◌≤◌}
-use mathlib.Core.Path.{◌≡◌, refl, sym}
+use mathlib.Core.Path.{◌≡◌}
 use lib.ListN.{length}
-use borrow.Author.Rules.{rules}
-use lib.ListN.{take, length-set}
+use lib.ListN.{take}
 use Rattle.words.specs.Words.{put}
-use Rattle.words.specs.Laws.{put_none}
 use Rattle.hexadecimal.specs.Hex.{bytes_of}
-use Rattle.hexadecimal.proofs.Steps.{bytes_more, bytes_all}
 use Rattle.hexadecimal.proofs.read_pairs.Given as goal
 
 abbrev pub invariant-loop-i : goal.invariant-loop-i

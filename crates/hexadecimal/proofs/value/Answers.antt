@@ -1,5 +1,4 @@
 -- `hexadecimal::value` meets its contract, by its tests in their order. Assumes nothing.
-use borrow.Author.Rules.{rules}
 use borrow.Author.Tests.{le-leb, lt-leb, lt-ltb, le-ltb}
 use Rattle.hexadecimal.specs.Hex.{value_of}
 use Rattle.hexadecimal.proofs.value.Goals as goal

@@ -1,6 +1,5 @@
 -- `hexadecimal::write` meets its contract, by its tests in their order. Assumes nothing.
 use native.Mathlib.Omega.{arith}
-use borrow.Author.Rules.{rules}
 use Rattle.hexadecimal.specs.Laws.{no_room, with_room, digits_length}
 use Rattle.hexadecimal.proofs.write.Goals as goal
 

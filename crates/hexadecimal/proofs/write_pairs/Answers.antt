@@ -1,13 +1,9 @@
 -- `hexadecimal::write_pairs` meets its contract. The loop's invariant: the digits of the first i bytes stand where they belong.
 -- Assumes nothing.
-use Prim.Native.Nat.{◌-◌, ◌≤◌}
-use mathlib.Core.Path.{◌≡◌, refl}
+use mathlib.Core.Path.{refl}
 use native.Mathlib.Omega.{arith}
-use lib.ListN.{length}
 use borrow.Author.Rules.{rules}
-use lib.ListN.{take, length-set}
-use Rattle.words.specs.Words.{put}
-use Rattle.hexadecimal.specs.Hex.{digits}
+use lib.ListN.{length-set}
 use Rattle.hexadecimal.proofs.Steps.{pairs_first, pairs_more, pairs_all}
 use Rattle.hexadecimal.proofs.write_pairs.Goals as goal
 

@@ -1,14 +1,11 @@
 -- `hexadecimal::write_pairs` meets its contract. The loop's invariant: the digits of the first i bytes stand where they belong.
 -- Assumes nothing.
 use Prim.Native.Nat.{◌-◌, ◌≤◌}
-use mathlib.Core.Path.{◌≡◌, refl}
-use native.Mathlib.Omega.{arith}
+use mathlib.Core.Path.{◌≡◌}
 use lib.ListN.{length}
-use borrow.Author.Rules.{rules}
-use lib.ListN.{take, length-set}
+use lib.ListN.{take}
 use Rattle.words.specs.Words.{put}
 use Rattle.hexadecimal.specs.Hex.{digits}
-use Rattle.hexadecimal.proofs.Steps.{pairs_first, pairs_more, pairs_all}
 use Rattle.hexadecimal.proofs.write_pairs.Given as goal
 
 abbrev pub invariant-loop-i : goal.invariant-loop-i

@@ -1,13 +1,9 @@
 -- `image::agree` meets its contract. The loop's invariant: the marks passed say cached where the slots do. Assumes nothing.
 use Prim.Native.Nat.{ℕ, ◌+◌, ◌-◌, ◌≤◌, ◌<◌}
 use mathlib.Core.Path.{◌≡◌}
-use native.Mathlib.Omega.{arith}
 use lib.ListN.{get_or}
-use borrow.Author.Rules.{rules}
-use borrow.Author.Count.{below_more}
 use mathlib.Core.Bool.{false}
 use lib.Dec.{leb}
-use Rattle.image.proofs.Seats.{same_mark, other_mark, agree_not, agree_all}
 use Rattle.image.proofs.agree.Given as goal
 
 abbrev pub invariant-loop-q : goal.invariant-loop-q

@@ -1,10 +1,6 @@
 -- `image::layers` meets its contract: after q turns the array is the table of the first q layers. Assumes nothing.
-use Prim.Native.Nat.{◌+◌, ◌-◌, ◌≤◌, ◌%◌}
-use mathlib.Core.Path.{◌≡◌}
 use native.Mathlib.Omega.{arith}
-use lib.ListN.{get_or}
 use borrow.Author.Rules.{rules}
-use Rattle.paging.specs.Sets.{table}
 use Rattle.paging.specs.Tables.{fill_none, fill_more, fill_all}
 use Rattle.image.specs.Layout.{image_layers}
 use Rattle.image.proofs.layers.Goals as goal

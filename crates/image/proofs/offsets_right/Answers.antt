@@ -1,7 +1,6 @@
 -- `image::offsets_right` meets its contract, by its tests in their order. Assumes nothing.
 use mathlib.Core.Path.{sym, ◌∙◌}
 use native.Mathlib.Omega.{arith}
-use borrow.Author.Rules.{rules}
 use Rattle.paging.specs.Tests.{isnt}
 use Rattle.image.specs.Layout.{offsets_right}
 use Rattle.image.proofs.Laws.{offsets_true, offsets_last}

@@ -1,11 +1,7 @@
 -- `image::priorities` meets its contract: after q turns the array is the table of the first q priorities. Assumes nothing.
-use Prim.Native.Nat.{◌+◌, ◌*◌, ◌-◌, ◌≤◌}
-use mathlib.Core.Path.{◌≡◌}
 use native.Mathlib.Omega.{arith}
 use borrow.Author.Rules.{rules}
-use Rattle.paging.specs.Sets.{table}
 use Rattle.paging.specs.Tables.{fill_none, fill_more, fill_all}
-use Rattle.words.specs.Words.{word_at}
 use Rattle.image.specs.Layout.{image_priorities}
 use Rattle.image.proofs.priorities.Goals as goal
 

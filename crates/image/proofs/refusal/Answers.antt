@@ -4,7 +4,6 @@ use mathlib.Core.Path.{◌≡◌, sym, ◌∙◌}
 use Prim.Native.Nat.{ℕ}
 use native.Mathlib.Omega.{arith}
 use borrow.Author.Rules.{rules}
-use borrow.Author.Tests.{not-true, not-false}
 use Rattle.begin.specs.Limits.{limits_refusal}
 use Rattle.image.specs.Layout.{image_length, pages_in, slots_in}
 use Rattle.image.proofs.Laws.{refusal_short, refusal_limits, refusal_offsets, refusal_total, refusal_none}

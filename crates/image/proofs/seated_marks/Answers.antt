@@ -1,10 +1,9 @@
 -- `image::seated_marks` meets its contract. The loop's invariant: the pages in the slots passed are marked. Assumes nothing.
-use Prim.Native.Nat.{◌-◌, ◌≤◌, ◌<◌}
+use Prim.Native.Nat.{◌<◌}
 use native.Mathlib.Omega.{arith}
 use lib.ListN.{length}
 use borrow.Author.Rules.{rules}
-use mathlib.Core.Logic.{⊎_elim}
-use Rattle.image.proofs.Seats.{Marked, marked_none, marked_more, marked_past, marked_all}
+use Rattle.image.proofs.Seats.{marked_none, marked_more, marked_past, marked_all}
 use Rattle.image.proofs.seated_marks.Goals as goal
 use Rattle.image.proofs.seated_marks.Goals.{then-page-lt1024, else-page-lt1024}
 

@@ -1,10 +1,6 @@
 -- `image::seated_marks` meets its contract. The loop's invariant: the pages in the slots passed are marked. Assumes nothing.
-use Prim.Native.Nat.{◌-◌, ◌≤◌, ◌<◌}
-use native.Mathlib.Omega.{arith}
-use lib.ListN.{length}
-use borrow.Author.Rules.{rules}
-use mathlib.Core.Logic.{⊎_elim}
-use Rattle.image.proofs.Seats.{Marked, marked_none, marked_more, marked_past, marked_all}
+use Prim.Native.Nat.{◌-◌, ◌≤◌}
+use Rattle.image.proofs.Seats.{Marked}
 use Rattle.image.proofs.seated_marks.Given as goal
 
 abbrev pub invariant-loop-s : goal.invariant-loop-s

@@ -1,11 +1,7 @@
 -- `image::slots` meets its contract: after s turns the array is the table of the first s slots. Assumes nothing.
-use Prim.Native.Nat.{◌+◌, ◌*◌, ◌-◌, ◌≤◌}
-use mathlib.Core.Path.{◌≡◌}
 use native.Mathlib.Omega.{arith}
 use borrow.Author.Rules.{rules}
-use Rattle.paging.specs.Sets.{table}
 use Rattle.paging.specs.Tables.{fill_none, fill_more, fill_all}
-use Rattle.words.specs.Words.{word_at}
 use Rattle.image.specs.Layout.{image_slots}
 use Rattle.image.proofs.slots.Goals as goal
 

@@ -1,10 +1,7 @@
 -- `image::write_header` meets its contract. The loop's invariant: the first i numbers stand where they belong, and the rest is as it was.
 -- Assumes nothing.
-use Prim.Native.Nat.{◌-◌, ◌≤◌}
-use mathlib.Core.Path.{◌≡◌, refl}
-use lib.ListN.{length, take}
+use mathlib.Core.Path.{refl}
 use borrow.Author.Rules.{rules}
-use Rattle.words.specs.Words.{words, put}
 use Rattle.words.proofs.Steps.{list_none, list_all}
 use Rattle.image.specs.Layout.{image_header}
 use Rattle.image.proofs.Stores.{number_more}

@@ -1,13 +1,9 @@
 -- `image::write_header` meets its contract. The loop's invariant: the first i numbers stand where they belong, and the rest is as it was.
 -- Assumes nothing.
 use Prim.Native.Nat.{◌-◌, ◌≤◌}
-use mathlib.Core.Path.{◌≡◌, refl}
+use mathlib.Core.Path.{◌≡◌}
 use lib.ListN.{length, take}
-use borrow.Author.Rules.{rules}
 use Rattle.words.specs.Words.{words, put}
-use Rattle.words.proofs.Steps.{list_none, list_all}
-use Rattle.image.specs.Layout.{image_header}
-use Rattle.image.proofs.Stores.{number_more}
 use Rattle.image.proofs.write_header.Given as goal
 
 abbrev pub invariant-loop-i : goal.invariant-loop-i

@@ -1,16 +1,12 @@
 -- `image::write_marks` meets its contract. The loop's invariant: the first q marks stand where they belong, and the rest is as it was.
 -- Assumes nothing.
 use Prim.Native.Nat.{◌-◌, ◌≤◌}
-use mathlib.Core.Path.{◌≡◌, refl, ap, ◌∙◌}
-use native.Mathlib.Omega.{arith}
-use lib.ListN.{length, get_or, length-set}
-use borrow.Author.Rules.{rules}
+use mathlib.Core.Path.{◌≡◌}
+use lib.ListN.{length, get_or}
 use Rattle.paging.specs.Sets.{listed}
 use Rattle.words.specs.Words.{put}
 use Rattle.slots.specs.Slots.{seated}
 use Rattle.image.specs.Layout.{mark_byte}
-use Rattle.image.proofs.Seats.{marked_at}
-use Rattle.image.proofs.Stores.{stored_none, stored_more, stored_all}
 use Rattle.image.proofs.write_marks.Given as goal
 
 abbrev pub invariant-loop-q : goal.invariant-loop-q

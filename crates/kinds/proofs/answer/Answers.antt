@@ -1,7 +1,6 @@
 -- `kinds::answer` meets its contract, by how many words there are. Assumes nothing.
 use Rattle.kinds.specs.Kinds.{of_words}
 use Rattle.kinds.proofs.Steps.{as_many, not_as_many, line_wrote}
-use borrow.Author.Rules.{rules}
 use Rattle.kinds.proofs.answer.Goals as goal
 
 pub returns-then-words-eq2 : goal.returns-then-words-eq2

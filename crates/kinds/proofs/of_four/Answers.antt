@@ -1,7 +1,6 @@
 -- `kinds::of_four` meets its contract, by its tests in their order. Assumes nothing.
 use Rattle.answers.specs.Laws.{same_wrote, other_wrote}
 use Rattle.kinds.specs.Kinds.{four_words}
-use borrow.Author.Rules.{rules}
 use Rattle.kinds.proofs.of_four.Goals as goal
 
 pub returns-then-same : goal.returns-then-same

@@ -1,7 +1,6 @@
 -- `kinds::of_two` meets its contract, by its tests in their order. Assumes nothing.
 use Rattle.answers.specs.Laws.{same_wrote, other_wrote}
 use Rattle.kinds.specs.Kinds.{two_words}
-use borrow.Author.Rules.{rules}
 use Rattle.kinds.proofs.of_two.Goals as goal
 
 pub returns-then-same : goal.returns-then-same

@@ -1,10 +1,9 @@
 -- `layers::bounded` meets its contract: `most` is at most k where each layer below q is. Assumes nothing.
-use mathlib.Core.Logic.{inl, inr, ⊎_elim}
+use mathlib.Core.Logic.{inl, inr}
 use mathlib.Core.Path.{◌≡◌}
-use Prim.Native.Nat.{◌-◌, ◌≤◌}
 use native.Mathlib.Omega.{arith}
 use borrow.Author.Rules.{rules}
-use Rattle.layers.proofs.Passes.{Most, most_none, most_step}
+use Rattle.layers.proofs.Passes.{most_none, most_step}
 use Rattle.layers.proofs.bounded.Goals as goal
 use Rattle.layers.proofs.bounded.Goals.{else-most-layer, then-most-layer}
 

@@ -1,10 +1,6 @@
 -- `layers::bounded` meets its contract: `most` is at most k where each layer below q is. Assumes nothing.
-use mathlib.Core.Logic.{inl, inr, ⊎_elim}
-use mathlib.Core.Path.{◌≡◌}
 use Prim.Native.Nat.{◌-◌, ◌≤◌}
-use native.Mathlib.Omega.{arith}
-use borrow.Author.Rules.{rules}
-use Rattle.layers.proofs.Passes.{Most, most_none, most_step}
+use Rattle.layers.proofs.Passes.{Most}
 use Rattle.layers.proofs.bounded.Given as goal
 
 abbrev pub invariant-loop-q : goal.invariant-loop-q

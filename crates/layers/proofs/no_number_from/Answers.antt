@@ -1,8 +1,7 @@
 -- `layers::no_number_from` meets its contract: `others` counts the entries passed that are not 0. Assumes nothing.
-use mathlib.Core.Logic.{inl, inr, ⊎_elim}
-use Prim.Native.Nat.{◌-◌, ◌≤◌}
+use mathlib.Core.Logic.{inl, inr}
 use borrow.Author.Rules.{rules}
-use Rattle.layers.proofs.Passes.{Others, others_none, others_step, others_end}
+use Rattle.layers.proofs.Passes.{others_none, others_step, others_end}
 use Rattle.layers.proofs.no_number_from.Goals as goal
 use Rattle.layers.proofs.no_number_from.Goals.{else-numbers-q-ne0, then-numbers-q-ne0}
 

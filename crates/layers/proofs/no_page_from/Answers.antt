@@ -1,8 +1,7 @@
 -- `layers::no_page_from` meets its contract: `others` counts the entries passed that are not 65535. Assumes nothing.
-use mathlib.Core.Logic.{inl, inr, ⊎_elim}
-use Prim.Native.Nat.{◌-◌, ◌≤◌}
+use mathlib.Core.Logic.{inl, inr}
 use borrow.Author.Rules.{rules}
-use Rattle.layers.proofs.Passes.{Others, others_none, others_step, others_end}
+use Rattle.layers.proofs.Passes.{others_none, others_step, others_end}
 use Rattle.layers.proofs.no_page_from.Goals as goal
 use Rattle.layers.proofs.no_page_from.Goals.{else-held-s, then-held-s}
 

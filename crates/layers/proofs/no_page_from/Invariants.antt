@@ -1,8 +1,6 @@
 -- `layers::no_page_from` meets its contract: `others` counts the entries passed that are not 65535. Assumes nothing.
-use mathlib.Core.Logic.{inl, inr, ⊎_elim}
 use Prim.Native.Nat.{◌-◌, ◌≤◌}
-use borrow.Author.Rules.{rules}
-use Rattle.layers.proofs.Passes.{Others, others_none, others_step, others_end}
+use Rattle.layers.proofs.Passes.{Others}
 use Rattle.layers.proofs.no_page_from.Given as goal
 
 abbrev pub invariant-loop-s : goal.invariant-loop-s

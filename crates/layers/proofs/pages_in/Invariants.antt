@@ -1,10 +1,6 @@
 -- `layers::pages_in` meets its contract: n counts the pages below q. Assumes nothing.
-use mathlib.Core.Logic.{inl, inr, ⊎_elim}
-use mathlib.Core.Path.{◌≡◌}
 use Prim.Native.Nat.{◌-◌, ◌≤◌}
-use native.Mathlib.Omega.{arith}
-use borrow.Author.Rules.{rules}
-use Rattle.layers.proofs.Passes.{Counted, counted_none, counted_step}
+use Rattle.layers.proofs.Passes.{Counted}
 use Rattle.layers.proofs.pages_in.Given as goal
 
 abbrev pub invariant-loop-q : goal.invariant-loop-q

@@ -1,10 +1,7 @@
 -- `layers::seen` meets its contract: the layers of the pages below q are marked. Assumes nothing.
 use mathlib.Core.Path.{◌≡◌}
-use Prim.Native.Nat.{◌-◌, ◌≤◌}
 use native.Mathlib.Omega.{arith}
 use borrow.Author.Rules.{rules}
-use Rattle.layers.specs.Asked.{layer_at}
-use Rattle.layers.specs.Seen.{seen_marks}
 use Rattle.layers.proofs.Tables.{seen_none, seen_step}
 use Rattle.layers.proofs.seen.Goals as goal
 

@@ -1,9 +1,7 @@
 -- `layers::sink` meets its contract: the entries below q are lowered. Assumes nothing.
 use mathlib.Core.Path.{◌≡◌}
-use Prim.Native.Nat.{◌-◌, ◌≤◌}
 use native.Mathlib.Omega.{arith}
 use borrow.Author.Rules.{rules}
-use Rattle.layers.specs.Asked.{sunk}
 use Rattle.layers.proofs.Tables.{sunk_none, sunk_step}
 use Rattle.layers.proofs.sink.Goals as goal
 

@@ -1,10 +1,7 @@
 -- `layers::sink_near` meets its contract: the entries below s are lowered. Assumes nothing.
 use mathlib.Core.Path.{◌≡◌}
 use Prim.Native.Nat.{◌-◌, ◌≤◌}
-use native.Mathlib.Omega.{arith}
-use borrow.Author.Rules.{rules}
 use Rattle.layers.specs.Asked.{sunk}
-use Rattle.layers.proofs.Tables.{sunk_none, sunk_step}
 use Rattle.layers.proofs.sink_near.Given as goal
 
 abbrev pub invariant-loop-s : goal.invariant-loop-s

@@ -3,7 +3,6 @@ use mathlib.Core.Bool.{true}
 use mathlib.Core.Path.{◌≡◌, sym, ◌∙◌}
 use lib.ListN.{length}
 use borrow.Author.Rules.{rules}
-use borrow.Author.Tests.{not-true, not-false}
 use Rattle.paging.specs.Sets.{◌≤?◌}
 use Rattle.player.specs.Answer.{answer_bytes}
 use Rattle.player.specs.Laws.{no_fit, refused_fits, refused_answer, first_fits, lines_fit, whole_answer}

@@ -1,6 +1,5 @@
 -- `player::lines_length` meets its contract: the lines as they are played, and the last line behind them. Assumes nothing.
 use native.Mathlib.Omega.{arith}
-use borrow.Author.Rules.{rules}
 use Rattle.player.specs.Laws.{events_counted, lines_measured, lines_counted}
 use Rattle.player.proofs.lines_length.Goals as goal
 

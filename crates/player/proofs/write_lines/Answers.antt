@@ -1,5 +1,4 @@
 -- `player::write_lines` meets its contract: the lines as they are played, and the last line behind them. Assumes nothing.
-use borrow.Author.Rules.{rules}
 use Rattle.player.specs.Laws.{events_room, last_fits, lines_written}
 use Rattle.player.proofs.write_lines.Goals as goal
 

@@ -1,6 +1,5 @@
 -- `ranking::key` meets its contract. Assumes nothing.
 use mathlib.Core.Path.{refl}
-use borrow.Author.Rules.{rules}
 use Rattle.ranking.specs.Key.{key_of}
 use Rattle.ranking.proofs.key.Goals as goal
 

@@ -1,13 +1,9 @@
 -- `ranking::keys` meets its contract: after q turns the array is the table of the first q keys, and a read has told that priorities
 -- are 16 bits wide. Assumes nothing.
-use mathlib.Core.Path.{◌≡◌}
-use Prim.Native.Nat.{◌-◌, ◌≤◌, ◌<◌}
 use native.Mathlib.Omega.{arith}
-use lib.ListN.{get_or}
 use borrow.Author.Rules.{rules}
-use Rattle.paging.specs.Sets.{table}
 use Rattle.paging.specs.Tables.{fill_none, fill_more, fill_all}
-use Rattle.ranking.specs.Key.{key_of, page_keys, Narrow}
+use Rattle.ranking.specs.Key.{page_keys}
 use Rattle.ranking.proofs.keys.Goals as goal
 
 pub loop-q-init : goal.loop-q-init

@@ -2,12 +2,9 @@
 -- are 16 bits wide. Assumes nothing.
 use mathlib.Core.Path.{◌≡◌}
 use Prim.Native.Nat.{◌-◌, ◌≤◌, ◌<◌}
-use native.Mathlib.Omega.{arith}
 use lib.ListN.{get_or}
-use borrow.Author.Rules.{rules}
 use Rattle.paging.specs.Sets.{table}
-use Rattle.paging.specs.Tables.{fill_none, fill_more, fill_all}
-use Rattle.ranking.specs.Key.{key_of, page_keys, Narrow}
+use Rattle.ranking.specs.Key.{key_of, Narrow}
 use Rattle.ranking.proofs.keys.Given as goal
 
 abbrev pub invariant-loop-q : goal.invariant-loop-q

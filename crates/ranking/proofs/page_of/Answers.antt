@@ -1,6 +1,5 @@
 -- `ranking::page_of` meets its contract. Assumes nothing.
 use mathlib.Core.Path.{refl}
-use borrow.Author.Rules.{rules}
 use Rattle.ranking.specs.Key.{page_of}
 use Rattle.ranking.proofs.page_of.Goals as goal
 

@@ -1,15 +1,13 @@
 -- `replay::play` meets its contract: what is left of the requests makes of the run in hand what all make of the start, and told behind
 -- what is told already makes the whole; the arrays and counts are the run in hand. Assumes nothing.
-use mathlib.Core.Path.{◌≡◌, ap}
+use mathlib.Core.Path.{ap}
 use Prim.Native.Nat.{◌-◌}
 use native.Mathlib.Omega.{arith}
 use borrow.Author.Rules.{rules}
 use Rattle.run.specs.declared.Run.{Run}
 use Rattle.run.proofs.Serving.{slots_hold, slots_byte}
-use Rattle.trace.specs.Reading.{asked}
-use Rattle.replay.specs.Replay.{state}
-use Rattle.replay.specs.Laws.{Long, Replaying, replaying_first, replaying_next, replaying_last, part_asked}
-use Rattle.replay.specs.Laws.{Telling, telling_first, line_fits, telling_next, telling_last}
+use Rattle.replay.specs.Laws.{Long, replaying_first, replaying_next, replaying_last, part_asked}
+use Rattle.replay.specs.Laws.{telling_first, line_fits, telling_next, telling_last}
 use Rattle.replay.proofs.play.Goals as goal
 use Rattle.replay.proofs.play.Goals.{Start}
 

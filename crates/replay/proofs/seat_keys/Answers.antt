@@ -1,12 +1,11 @@
 -- `replay::seat_keys` meets its contract: the table is that of the slots passed, and a read has told that priorities are 16 bits wide.
 -- Assumes nothing.
-use mathlib.Core.Path.{◌≡◌, refl, ap, ◌∙◌}
-use Prim.Native.Nat.{◌-◌, ◌≤◌, ◌<◌}
+use mathlib.Core.Path.{refl, ap, ◌∙◌}
+use Prim.Native.Nat.{◌-◌, ◌<◌}
 use native.Mathlib.Omega.{arith}
 use lib.ListN.{get_or}
 use borrow.Author.Rules.{rules}
 use Rattle.paging.specs.Sets.{listed, table}
-use Rattle.ranking.specs.Key.{Narrow, key_at, page_keys}
 use Rattle.slots.specs.Slots.{keys_of}
 use Rattle.replay.specs.Laws.{seat_page, seat_next}
 use Rattle.replay.proofs.seat_keys.Goals as goal

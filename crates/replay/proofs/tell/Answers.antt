@@ -1,7 +1,5 @@
 -- `replay::tell` meets its contract, by what is told. Assumes nothing.
 use native.Mathlib.Omega.{arith}
-use borrow.Author.Rules.{rules}
-use borrow.Author.Tests.{not-true, not-false}
 use Rattle.replay.specs.Laws.{tell_none, write_room, tell_written, count_room, tell_counted}
 use Rattle.replay.proofs.tell.Goals as goal
 

@@ -1,15 +1,10 @@
 -- `selection::above_of` meets its contract. The loop's invariant: the pages below r are counted. Assumes nothing.
-use mathlib.Core.Bool.{◌&&◌}
-use mathlib.Core.Logic.{⊎_elim}
-use mathlib.Core.Path.{◌≡◌, refl, ◌∙◌}
-use Prim.Native.Nat.{◌-◌, ◌≤◌}
+use mathlib.Core.Path.{refl, ◌∙◌}
 use native.Mathlib.Omega.{arith}
 use borrow.Author.Rules.{rules}
 use borrow.Author.Tests.{lt-ltb, le-ltb}
 use Rattle.paging.specs.Sets.{count}
 use Rattle.paging.specs.Tests.{and_in}
-use Rattle.ranking.specs.Key.{by_key, key_at}
-use Rattle.selection.specs.Marks.{marked}
 use Rattle.selection.proofs.Loops.{count_in, count_out, count_done, and_left_out, and_right_out}
 use Rattle.selection.proofs.above_of.Goals as goal
 use Rattle.selection.proofs.above_of.Goals.{then-set-r+then-keys-q, then-set-r+else-keys-q, else-set-r}

@@ -1,12 +1,8 @@
 -- `selection::joined` meets its contract. The loop's invariant: the marks of the pages below q are stored. Assumes nothing.
-use mathlib.Core.Bool.{true}
-use mathlib.Core.Logic.{⊎_elim}
-use mathlib.Core.Path.{◌≡◌, ◌∙◌}
+use mathlib.Core.Path.{◌≡◌}
 use Prim.Native.Nat.{◌-◌, ◌≤◌}
-use borrow.Author.Rules.{rules}
 use Rattle.paging.specs.Selection.{together}
 use Rattle.selection.specs.Marks.{marks, marked, layers}
-use Rattle.selection.proofs.Loops.{marks_none, marks_turn, marks_done, together_in, together_else}
 use Rattle.selection.proofs.joined.Given as goal
 
 abbrev pub invariant-loop-q : goal.invariant-loop-q

@@ -1,13 +1,10 @@
 -- `selection::kept` meets its contract. The loop's invariant: the marks of the pages below q are stored; a page that is not
 -- in the set keeps the mark that is there. Assumes nothing.
-use mathlib.Core.Logic.{⊎_elim}
-use mathlib.Core.Path.{◌≡◌, ◌∙◌}
+use mathlib.Core.Path.{◌≡◌}
 use Prim.Native.Nat.{◌-◌, ◌≤◌}
-use borrow.Author.Rules.{rules}
 use Rattle.paging.specs.Selection.{highest}
 use Rattle.ranking.specs.Key.{by_key, key_at}
 use Rattle.selection.specs.Marks.{marks, marked}
-use Rattle.selection.proofs.Loops.{marks_none, marks_turn, marks_pass, marks_done, highest_in, highest_out}
 use Rattle.selection.proofs.kept.Given as goal
 
 abbrev pub invariant-loop-q : goal.invariant-loop-q

@@ -1,11 +1,9 @@
 -- `selection::selected` meets its contract. The loop's invariant: the set is C_j. Assumes nothing.
 use mathlib.Core.Path.{◌≡◌}
 use Prim.Native.Nat.{◌-◌, ◌≤◌}
-use borrow.Author.Rules.{rules}
 use Rattle.paging.specs.Selection.{chosen}
 use Rattle.ranking.specs.Key.{by_key, key_at}
 use Rattle.selection.specs.Marks.{marks, layers}
-use Rattle.selection.proofs.Loops.{chosen_none, chosen_turn, chosen_done}
 use Rattle.selection.proofs.selected.Given as goal
 
 abbrev pub invariant-loop-j : goal.invariant-loop-j

@@ -1,7 +1,5 @@
 -- `serve::step` meets its contract: a page that is in a slot is a hit there, any other goes to `swap`. Assumes nothing.
-use mathlib.Core.Path.{sym, ◌∙◌}
 use native.Mathlib.Omega.{arith}
-use borrow.Author.Rules.{rules}
 use Rattle.serve.proofs.Swaps.{settles, away, here, stayed, unmoved}
 use Rattle.serve.proofs.step.Goals as goal
 

@@ -1,7 +1,5 @@
 -- `serve::swap` meets its contract, by the laws of Swaps. Assumes nothing.
-use mathlib.Core.Path.{sym, ◌∙◌}
 use native.Mathlib.Omega.{arith}
-use borrow.Author.Rules.{rules}
 use Rattle.serve.proofs.Swaps.{here, settles, no_victim, no_place, swapped}
 use Rattle.serve.proofs.swap.Goals as goal
 

@@ -1,5 +1,4 @@
 -- `serve::victim` meets its contract, by the cases of the search. Assumes nothing.
-use mathlib.Core.Path.{sym, ◌∙◌}
 use borrow.Author.Rules.{rules}
 use Rattle.serve.proofs.Victims.{found_at, found_none, search_small, page_found, page_none}
 use Rattle.serve.proofs.victim.Goals as goal

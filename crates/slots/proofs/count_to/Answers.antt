@@ -1,6 +1,6 @@
 -- `slots::count_to` meets its contract. The loop's invariant: n is the count of the slots passed. Assumes nothing.
-use mathlib.Core.Path.{◌≡◌, refl, ap, ◌∙◌}
-use Prim.Native.Nat.{ℕ, ◌≤◌, ◌-◌}
+use mathlib.Core.Path.{refl, ap, ◌∙◌}
+use Prim.Native.Nat.{ℕ}
 use native.Mathlib.Omega.{arith}
 use borrow.Author.Rules.{rules}
 use Rattle.paging.specs.Sets.{count}

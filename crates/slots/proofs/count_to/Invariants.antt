@@ -1,12 +1,7 @@
 -- `slots::count_to` meets its contract. The loop's invariant: n is the count of the slots passed. Assumes nothing.
-use mathlib.Core.Path.{◌≡◌, refl, ap, ◌∙◌}
-use Prim.Native.Nat.{ℕ, ◌≤◌, ◌-◌}
-use native.Mathlib.Omega.{arith}
-use borrow.Author.Rules.{rules}
-use Rattle.paging.specs.Sets.{count}
+use mathlib.Core.Path.{◌≡◌}
+use Prim.Native.Nat.{◌≤◌, ◌-◌}
 use Rattle.slots.specs.Slots.{near_to}
-use Rattle.slots.specs.Laws.{near_most}
-use Rattle.slots.proofs.Loops.{count_next, count_most}
 use Rattle.slots.proofs.count_to.Given as goal
 
 abbrev pub invariant-loop-s : goal.invariant-loop-s

@@ -1,13 +1,10 @@
 -- `slots::counts` meets its contract. The loop's invariant: n is the sum of the layers passed, and the table has their entries.
 -- Assumes nothing.
-use mathlib.Core.Path.{◌≡◌, refl}
-use Prim.Native.Nat.{suc, ◌+◌, ◌-◌, ◌≤◌}
+use mathlib.Core.Path.{refl}
 use native.Mathlib.Omega.{arith}
 use borrow.Author.Rules.{rules}
-use Rattle.paging.specs.Sets.{table}
 use Rattle.paging.specs.Tables.{fill_none, fill_more, fill_all}
-use Rattle.slots.specs.Slots.{near_to, tally_of}
-use Rattle.slots.proofs.Running.{sum_before, sum_none, sum_passed, sum_here, sum_most}
+use Rattle.slots.proofs.Running.{sum_none, sum_passed, sum_here, sum_most}
 use Rattle.slots.proofs.counts.Goals as goal
 
 pub loop-j-init : goal.loop-j-init

@@ -1,9 +1,9 @@
 -- `slots::find` meets its contract. The loop's invariant: `left` tells the first of the slots passed that holds the page. Assumes nothing.
 use mathlib.Core.Path.{◌≡◌, refl, ap, ◌∙◌}
-use Prim.Native.Nat.{ℕ, max, ◌+◌, ◌≤◌, ◌-◌}
+use Prim.Native.Nat.{ℕ, max}
 use native.Mathlib.Omega.{arith}
 use borrow.Author.Rules.{rules}
-use Rattle.slots.proofs.Loops.{Left, left_none, left_next, left_here, left_nowhere}
+use Rattle.slots.proofs.Loops.{left_none, left_next, left_here, left_nowhere}
 use Rattle.slots.proofs.find.Goals as goal
 
 pub loop-s-init : goal.loop-s-init

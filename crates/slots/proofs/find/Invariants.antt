@@ -1,9 +1,7 @@
 -- `slots::find` meets its contract. The loop's invariant: `left` tells the first of the slots passed that holds the page. Assumes nothing.
-use mathlib.Core.Path.{◌≡◌, refl, ap, ◌∙◌}
-use Prim.Native.Nat.{ℕ, max, ◌+◌, ◌≤◌, ◌-◌}
-use native.Mathlib.Omega.{arith}
-use borrow.Author.Rules.{rules}
-use Rattle.slots.proofs.Loops.{Left, left_none, left_next, left_here, left_nowhere}
+use mathlib.Core.Path.{◌≡◌}
+use Prim.Native.Nat.{◌+◌, ◌≤◌, ◌-◌}
+use Rattle.slots.proofs.Loops.{Left}
 use Rattle.slots.proofs.find.Given as goal
 
 abbrev pub invariant-loop-s : goal.invariant-loop-s

@@ -1,12 +1,8 @@
 -- `slots::keys` meets its contract. The loop's invariant: the table is that of the slots passed. Assumes nothing.
-use mathlib.Core.Path.{◌≡◌, refl, ap, ◌∙◌}
+use mathlib.Core.Path.{◌≡◌}
 use Prim.Native.Nat.{◌-◌, ◌≤◌}
-use native.Mathlib.Omega.{arith}
-use borrow.Author.Rules.{rules}
-use Rattle.paging.specs.Sets.{listed, table}
 use Rattle.ranking.specs.Key.{key_at}
 use Rattle.slots.specs.Slots.{keys_of}
-use Rattle.slots.proofs.Loops.{PageAt, page_read, keys_next}
 use Rattle.slots.proofs.keys.Given as goal
 
 abbrev pub invariant-loop-s : goal.invariant-loop-s

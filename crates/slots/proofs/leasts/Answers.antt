@@ -1,9 +1,7 @@
 -- `slots::leasts` meets its contract. The loop's invariant: the least keys are those of the slots passed. Assumes nothing.
 use mathlib.Core.Path.{◌≡◌}
-use Prim.Native.Nat.{◌-◌, ◌≤◌}
 use native.Mathlib.Omega.{arith}
 use borrow.Author.Rules.{rules}
-use Rattle.slots.specs.Slots.{leasts_of}
 use Rattle.slots.proofs.Running.{leasts_none, leasts_next}
 use Rattle.slots.proofs.leasts.Goals as goal
 

@@ -1,6 +1,5 @@
 -- `slots::lowest` meets its contract. The loop's invariant: `least` is the least key of the slots passed. Assumes nothing.
-use mathlib.Core.Path.{◌≡◌, refl, ap, ◌∙◌}
-use Prim.Native.Nat.{◌≤◌, ◌-◌}
+use mathlib.Core.Path.{refl, ap, ◌∙◌}
 use native.Mathlib.Omega.{arith}
 use borrow.Author.Rules.{rules}
 use Rattle.slots.specs.Slots.{least_key}

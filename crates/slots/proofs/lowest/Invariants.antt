@@ -1,10 +1,7 @@
 -- `slots::lowest` meets its contract. The loop's invariant: `least` is the least key of the slots passed. Assumes nothing.
-use mathlib.Core.Path.{◌≡◌, refl, ap, ◌∙◌}
+use mathlib.Core.Path.{◌≡◌}
 use Prim.Native.Nat.{◌≤◌, ◌-◌}
-use native.Mathlib.Omega.{arith}
-use borrow.Author.Rules.{rules}
 use Rattle.slots.specs.Slots.{least_key}
-use Rattle.slots.proofs.Loops.{least_next}
 use Rattle.slots.proofs.lowest.Given as goal
 
 abbrev pub invariant-loop-s : goal.invariant-loop-s

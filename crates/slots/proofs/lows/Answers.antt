@@ -1,12 +1,8 @@
 -- `slots::lows` meets its contract. The loop's invariant: `low` is the least key of the layers passed, and the table has their
 -- entries. Assumes nothing.
-use mathlib.Core.Path.{◌≡◌}
-use Prim.Native.Nat.{suc, ◌+◌, ◌-◌, ◌≤◌}
 use borrow.Author.Rules.{rules}
-use Rattle.paging.specs.Sets.{table}
 use Rattle.paging.specs.Tables.{fill_none, fill_more, fill_all}
-use Rattle.slots.specs.Slots.{least_key, leasts_of}
-use Rattle.slots.proofs.Running.{least_before, least_none, least_passed, least_here}
+use Rattle.slots.proofs.Running.{least_none, least_passed, least_here}
 use Rattle.slots.proofs.lows.Goals as goal
 
 pub loop-j-init : goal.loop-j-init

@@ -2,11 +2,9 @@
 -- entries. Assumes nothing.
 use mathlib.Core.Path.{◌≡◌}
 use Prim.Native.Nat.{suc, ◌+◌, ◌-◌, ◌≤◌}
-use borrow.Author.Rules.{rules}
 use Rattle.paging.specs.Sets.{table}
-use Rattle.paging.specs.Tables.{fill_none, fill_more, fill_all}
 use Rattle.slots.specs.Slots.{least_key, leasts_of}
-use Rattle.slots.proofs.Running.{least_before, least_none, least_passed, least_here}
+use Rattle.slots.proofs.Running.{least_before}
 use Rattle.slots.proofs.lows.Given as goal
 
 abbrev pub invariant-loop-j : goal.invariant-loop-j

@@ -1,6 +1,5 @@
 -- `slots::nears` meets its contract. The loop's invariant: the table is that of the slots passed. Assumes nothing.
-use mathlib.Core.Path.{◌≡◌, refl, ap, ◌∙◌}
-use Prim.Native.Nat.{◌-◌, ◌≤◌}
+use mathlib.Core.Path.{refl, ap, ◌∙◌}
 use native.Mathlib.Omega.{arith}
 use borrow.Author.Rules.{rules}
 use Rattle.paging.specs.Sets.{listed, table}

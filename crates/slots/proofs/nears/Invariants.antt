@@ -1,11 +1,7 @@
 -- `slots::nears` meets its contract. The loop's invariant: the table is that of the slots passed. Assumes nothing.
-use mathlib.Core.Path.{◌≡◌, refl, ap, ◌∙◌}
+use mathlib.Core.Path.{◌≡◌}
 use Prim.Native.Nat.{◌-◌, ◌≤◌}
-use native.Mathlib.Omega.{arith}
-use borrow.Author.Rules.{rules}
-use Rattle.paging.specs.Sets.{listed, table}
 use Rattle.slots.specs.Slots.{near_of}
-use Rattle.slots.proofs.Loops.{PageAt, page_read, near_next}
 use Rattle.slots.proofs.nears.Given as goal
 
 abbrev pub invariant-loop-s : goal.invariant-loop-s

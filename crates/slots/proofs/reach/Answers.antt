@@ -1,10 +1,9 @@
 -- `slots::reach` meets its contract. The loop's invariant: no j passed is what is looked for. Assumes nothing.
 use mathlib.Core.Path.{ap, ◌∙◌}
-use Prim.Native.Nat.{suc, ◌≤◌, ◌-◌}
 use borrow.Author.Count.{below_more}
 use borrow.Author.Rules.{rules}
 use Rattle.slots.specs.Slots.{found}
-use Rattle.slots.proofs.Loops.{Passed, found_here, found_none, full, full_before, full_here, full_not, full_from}
+use Rattle.slots.proofs.Loops.{found_here, found_none, full_before, full_here, full_not, full_from}
 use Rattle.slots.proofs.reach.Goals as goal
 
 pub loop-j-init : goal.loop-j-init

@@ -1,13 +1,11 @@
 -- `slots::reach_on` meets its contract. The loop's invariant: no j passed is what is looked for, and n is the count up to j.
 -- Assumes nothing.
-use mathlib.Core.Path.{◌≡◌}
-use Prim.Native.Nat.{suc, ◌+◌, ◌≤◌, ◌-◌}
+use Prim.Native.Nat.{◌+◌}
 use native.Mathlib.Omega.{arith}
 use borrow.Author.Count.{below_more}
 use borrow.Author.Rules.{rules}
-use Rattle.slots.specs.Slots.{near_to, tally_of}
 use Rattle.slots.specs.Laws.{near_most}
-use Rattle.slots.proofs.Loops.{Passed, found_here, found_none, full, full_before, full_here, full_not, sum_next}
+use Rattle.slots.proofs.Loops.{found_here, found_none, full_before, full_here, full_not, sum_next}
 use Rattle.slots.proofs.reach_on.Goals as goal
 
 pub loop-j-init : goal.loop-j-init

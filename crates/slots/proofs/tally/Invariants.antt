@@ -1,10 +1,7 @@
 -- `slots::tally` meets its contract: the sums are those of the slots passed. Assumes nothing.
 use mathlib.Core.Path.{◌≡◌}
 use Prim.Native.Nat.{◌-◌, ◌≤◌}
-use native.Mathlib.Omega.{arith}
-use borrow.Author.Rules.{rules}
 use Rattle.slots.specs.Slots.{tally_of}
-use Rattle.slots.proofs.Loops.{tally_none, tally_most, tally_next}
 use Rattle.slots.proofs.tally.Given as goal
 
 abbrev pub invariant-loop-s : goal.invariant-loop-s

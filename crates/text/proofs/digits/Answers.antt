@@ -1,11 +1,7 @@
 -- `text::digits` meets its contract. The loop's invariant: the digits counted and those of what is left are the number's.
 -- Assumes nothing.
-use mathlib.Core.Path.{◌≡◌}
-use Prim.Native.Nat.{◌+◌, ◌≤◌}
 use native.Mathlib.Omega.{arith}
 use borrow.Author.Rules.{rules}
-use lib.ListN.{length}
-use Rattle.text.specs.Text.{digits_to, decimal}
 use Rattle.text.specs.Laws.{decimal_short}
 use Rattle.text.proofs.Steps.{count_first, count_more, count_last}
 use Rattle.text.proofs.digits.Goals as goal

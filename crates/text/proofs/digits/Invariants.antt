@@ -2,12 +2,8 @@
 -- Assumes nothing.
 use mathlib.Core.Path.{◌≡◌}
 use Prim.Native.Nat.{◌+◌, ◌≤◌}
-use native.Mathlib.Omega.{arith}
-use borrow.Author.Rules.{rules}
 use lib.ListN.{length}
 use Rattle.text.specs.Text.{digits_to, decimal}
-use Rattle.text.specs.Laws.{decimal_short}
-use Rattle.text.proofs.Steps.{count_first, count_more, count_last}
 use Rattle.text.proofs.digits.Given as goal
 
 abbrev pub invariant-loop-left : goal.invariant-loop-left

@@ -1,6 +1,5 @@
 -- `text::last_line_length` meets its contract: the sum of the line's parts. Assumes nothing.
 use native.Mathlib.Omega.{arith}
-use borrow.Author.Rules.{rules}
 use Rattle.text.proofs.Steps.{last_sum}
 use Rattle.text.proofs.last_line_length.Goals as goal
 

@@ -1,6 +1,5 @@
 -- `text::line_length` meets its contract: in each arm, the sum of the line's parts. Assumes nothing.
 use native.Mathlib.Omega.{arith}
-use borrow.Author.Rules.{rules}
 use Rattle.text.proofs.Steps.{hit_sum, miss_sum, refused_sum}
 use Rattle.text.proofs.line_length.Goals as goal
 

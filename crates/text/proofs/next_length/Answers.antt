@@ -1,6 +1,5 @@
 -- `text::next_length` meets its contract: a space is one byte. Assumes nothing.
 use native.Mathlib.Omega.{arith}
-use borrow.Author.Rules.{rules}
 use Rattle.text.specs.Text.{then_number}
 use Rattle.text.specs.Laws.{decimal_short}
 use Rattle.text.proofs.next_length.Goals as goal

@@ -1,6 +1,5 @@
 -- `text::refused_length` meets its contract: the sum of the line's parts. Assumes nothing.
 use native.Mathlib.Omega.{arith}
-use borrow.Author.Rules.{rules}
 use Rattle.text.proofs.Steps.{file_sum}
 use Rattle.text.proofs.refused_length.Goals as goal
 

@@ -2,7 +2,6 @@
 use Prim.Native.Nat.{◌+◌, ◌≤◌}
 use native.Mathlib.Omega.{arith}
 use lib.ListN.{length}
-use borrow.Author.Rules.{rules}
 use Rattle.text.specs.Text.{then_number}
 use Rattle.text.proofs.Steps.{then, word, told, entry_room}
 use Rattle.text.proofs.write_entry.Goals as goal

@@ -2,7 +2,6 @@
 use Prim.Native.Nat.{◌+◌, ◌≤◌}
 use native.Mathlib.Omega.{arith}
 use lib.ListN.{length}
-use borrow.Author.Rules.{rules}
 use Rattle.text.specs.Text.{first_line, then_entry, then_number}
 use Rattle.text.proofs.Steps.{then, word, told, first_sum}
 use Rattle.text.proofs.write_first_line.Goals as goal

@@ -2,7 +2,6 @@
 use Prim.Native.Nat.{◌+◌, ◌≤◌}
 use native.Mathlib.Omega.{arith}
 use lib.ListN.{length}
-use borrow.Author.Rules.{rules}
 use Rattle.text.specs.Text.{last_line, then_entry, then_number}
 use Rattle.text.proofs.Steps.{then, word, told, last_sum}
 use Rattle.text.proofs.write_last_line.Goals as goal

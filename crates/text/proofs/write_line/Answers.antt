@@ -1,7 +1,6 @@
 -- `text::write_line` meets its contract: in each arm, what the calls write adjoins. Each bound names the record that it starts
 -- from, since `search` does not look that far back. Assumes nothing.
 use native.Mathlib.Omega.{arith}
-use borrow.Author.Rules.{rules}
 use Rattle.text.specs.Text.{event_line}
 use Rattle.text.proofs.Steps.{then, word, told, hit_room, miss_room, refused_room}
 use Rattle.text.proofs.write_line.Goals as goal

@@ -1,14 +1,12 @@
 -- `text::write_number` meets its contract. The loop's invariant: with the digits that are left put in, the slice is as it is to be.
 -- Assumes nothing.
-use mathlib.Core.Path.{◌≡◌, refl, sym, ◌∙◌}
-use Prim.Native.Nat.{◌-◌, ◌≤◌}
+use mathlib.Core.Path.{refl, sym, ◌∙◌}
+use Prim.Native.Nat.{◌-◌}
 use native.Mathlib.Omega.{arith}
 use borrow.Author.Rules.{rules}
-use lib.ListN.{length, length-set}
-use Rattle.words.specs.Words.{put}
-use Rattle.text.specs.Text.{decimal}
+use lib.ListN.{length-set}
 use Rattle.text.specs.Laws.{decimal_short}
-use Rattle.text.proofs.Steps.{last_digits, number_first, number_more, number_last}
+use Rattle.text.proofs.Steps.{number_first, number_more, number_last}
 use Rattle.text.proofs.write_number.Goals as goal
 
 pub overflow_add-end : goal.overflow_add-end

@@ -1,14 +1,11 @@
 -- `text::write_number` meets its contract. The loop's invariant: with the digits that are left put in, the slice is as it is to be.
 -- Assumes nothing.
-use mathlib.Core.Path.{◌≡◌, refl, sym, ◌∙◌}
+use mathlib.Core.Path.{◌≡◌}
 use Prim.Native.Nat.{◌-◌, ◌≤◌}
-use native.Mathlib.Omega.{arith}
-use borrow.Author.Rules.{rules}
-use lib.ListN.{length, length-set}
+use lib.ListN.{length}
 use Rattle.words.specs.Words.{put}
 use Rattle.text.specs.Text.{decimal}
-use Rattle.text.specs.Laws.{decimal_short}
-use Rattle.text.proofs.Steps.{last_digits, number_first, number_more, number_last}
+use Rattle.text.proofs.Steps.{last_digits}
 use Rattle.text.proofs.write_number.Given as goal
 
 abbrev pub invariant-loop-i : goal.invariant-loop-i

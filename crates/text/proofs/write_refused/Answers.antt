@@ -2,7 +2,6 @@
 use Prim.Native.Nat.{◌+◌, ◌≤◌}
 use native.Mathlib.Omega.{arith}
 use lib.ListN.{length}
-use borrow.Author.Rules.{rules}
 use Rattle.text.specs.Text.{refused_line, then_number}
 use Rattle.text.proofs.Steps.{then, word, told, file_sum}
 use Rattle.text.proofs.write_refused.Goals as goal

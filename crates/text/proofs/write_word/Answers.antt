@@ -1,10 +1,9 @@
 -- `text::write_word` meets its contract. The loop's invariant: the first i bytes stand where they belong, and the rest is as it was.
 -- Assumes nothing.
-use mathlib.Core.Path.{◌≡◌, refl, sym}
-use Prim.Native.Nat.{◌-◌, ◌≤◌}
+use mathlib.Core.Path.{refl, sym}
+use Prim.Native.Nat.{◌-◌}
 use borrow.Author.Rules.{rules}
-use lib.ListN.{length, take, length-set}
-use Rattle.words.specs.Words.{put}
+use lib.ListN.{length-set}
 use Rattle.words.specs.Laws.{put_none}
 use Rattle.text.proofs.Steps.{word_more, word_all}
 use Rattle.text.proofs.write_word.Goals as goal

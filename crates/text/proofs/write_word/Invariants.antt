@@ -1,12 +1,9 @@
 -- `text::write_word` meets its contract. The loop's invariant: the first i bytes stand where they belong, and the rest is as it was.
 -- Assumes nothing.
-use mathlib.Core.Path.{◌≡◌, refl, sym}
+use mathlib.Core.Path.{◌≡◌}
 use Prim.Native.Nat.{◌-◌, ◌≤◌}
-use borrow.Author.Rules.{rules}
-use lib.ListN.{length, take, length-set}
+use lib.ListN.{length, take}
 use Rattle.words.specs.Words.{put}
-use Rattle.words.specs.Laws.{put_none}
-use Rattle.text.proofs.Steps.{word_more, word_all}
 use Rattle.text.proofs.write_word.Given as goal
 
 abbrev pub invariant-loop-i : goal.invariant-loop-i

@@ -4,8 +4,7 @@ use mathlib.Core.Path.{ap}
 use Prim.Native.Nat.{◌-◌}
 use borrow.Author.Rules.{rules}
 use Rattle.run.specs.declared.Run.{Run}
-use Rattle.trace.specs.Reading.{asked}
-use Rattle.timed.specs.Timed.{Going, going_first, going_next, going_last}
+use Rattle.timed.specs.Timed.{going_first, going_next, going_last}
 use Rattle.timed.proofs.checked_misses.Goals as goal
 
 pub loop-i-init : goal.loop-i-init

@@ -1,11 +1,8 @@
 -- `timed::checked_misses` meets its contract: what is left of the requests makes of the run in hand what all make of the start.
 -- Assumes nothing.
-use mathlib.Core.Path.{ap}
 use Prim.Native.Nat.{◌-◌}
-use borrow.Author.Rules.{rules}
-use Rattle.run.specs.declared.Run.{Run}
 use Rattle.trace.specs.Reading.{asked}
-use Rattle.timed.specs.Timed.{Going, going_first, going_next, going_last}
+use Rattle.timed.specs.Timed.{Going}
 use Rattle.timed.proofs.checked_misses.Given as goal
 
 abbrev pub invariant-loop-i : goal.invariant-loop-i

@@ -1,11 +1,8 @@
 -- `trace::entries` meets its contract: after i turns the array is the table of the first i entries. Assumes nothing.
-use Prim.Native.Nat.{◌+◌, ◌*◌, ◌-◌, ◌≤◌}
-use mathlib.Core.Path.{◌≡◌}
+use Prim.Native.Nat.{◌-◌}
 use native.Mathlib.Omega.{arith}
 use borrow.Author.Rules.{rules}
-use Rattle.paging.specs.Sets.{table}
 use Rattle.paging.specs.Tables.{fill_none, fill_more, fill_all}
-use Rattle.words.specs.Words.{word_at}
 use Rattle.trace.proofs.entries.Goals as goal
 
 pub loop-i-init : goal.loop-i-init

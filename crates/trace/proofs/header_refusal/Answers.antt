@@ -1,7 +1,6 @@
 -- `trace::header_refusal` meets its contract, by its tests in their order. Assumes nothing.
 use mathlib.Core.Path.{sym, ◌∙◌}
 use borrow.Author.Rules.{rules}
-use borrow.Author.Tests.{not-true, not-false}
 use Rattle.trace.proofs.Reading.{header_short, header_limits, header_requests, header_offsets, header_total, header_none}
 use Rattle.trace.proofs.header_refusal.Goals as goal
 

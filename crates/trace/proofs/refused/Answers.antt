@@ -1,5 +1,4 @@
 -- `trace::refused` meets its contract. Assumes nothing.
-use borrow.Author.Rules.{rules}
 use Rattle.trace.specs.Reading.{no_trace}
 use Rattle.trace.proofs.refused.Goals as goal
 

@@ -1,5 +1,4 @@
 -- `trace::write_sections` meets its contract, section by section. Assumes nothing.
-use borrow.Author.Rules.{rules}
 use Rattle.trace.proofs.Writing.{sections_written}
 use Rattle.trace.proofs.write_sections.Goals as goal
 

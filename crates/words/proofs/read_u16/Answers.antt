@@ -1,7 +1,6 @@
 -- `words::read_u16` meets its contract. Assumes nothing.
 use Prim.Native.Nat.{◌+◌}
 use native.Mathlib.Omega.{arith}
-use borrow.Author.Rules.{rules}
 use Rattle.words.proofs.Steps.{read_two}
 use Rattle.words.proofs.read_u16.Goals as goal
 

@@ -1,10 +1,7 @@
 -- `words::write_list` meets its contract. The loop's invariant: the first i numbers stand where they belong, and the rest is as it was.
 -- Assumes nothing.
-use mathlib.Core.Path.{◌≡◌, refl}
-use Prim.Native.Nat.{◌-◌, ◌≤◌}
+use mathlib.Core.Path.{refl}
 use borrow.Author.Rules.{rules}
-use lib.ListN.{length, take}
-use Rattle.words.specs.Words.{words, put}
 use Rattle.words.proofs.Steps.{list_none, list_more, list_all}
 use Rattle.words.proofs.write_list.Goals as goal
 

@@ -1,6 +1,5 @@
 -- `words::write_u16` meets its contract. Assumes nothing.
 use native.Mathlib.Omega.{arith}
-use borrow.Author.Rules.{rules}
 use lib.ListN.{length-set}
 use Rattle.words.proofs.Steps.{write_two}
 use Rattle.words.proofs.write_u16.Goals as goal

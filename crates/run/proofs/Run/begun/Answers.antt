@@ -1,5 +1,4 @@
 -- `Run::begun` meets its contract. Assumes nothing.
-use borrow.Author.Rules.{rules}
 use Rattle.begin.proofs.RefusalLaws.{begun_layers, begun_slots}
 use Rattle.run.specs.Start.{start_run}
 use Rattle.run.proofs.Run.begun.Goals as goal

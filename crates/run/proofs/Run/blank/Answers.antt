@@ -1,5 +1,4 @@
 -- `Run::blank` is the blank run. Assumes nothing.
-use borrow.Author.Rules.{rules}
 use Rattle.run.specs.Numbers.{blank_run}
 use Rattle.run.proofs.Run.blank.Goals as goal
 

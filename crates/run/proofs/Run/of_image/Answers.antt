@@ -1,6 +1,5 @@
 -- `Run::of_image` meets its contract: the header has room for what is read. Assumes nothing.
 use native.Mathlib.Omega.{arith}
-use borrow.Author.Rules.{rules}
 use Rattle.run.proofs.Storing.{image_fits, image_long, image_run_is}
 use Rattle.run.proofs.Run.of_image.Goals as goal
 

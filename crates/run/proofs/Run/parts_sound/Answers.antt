@@ -1,7 +1,6 @@
 -- `Run::parts_sound` meets its contract: each early answer breaks a part, and at the end the tables decide. Assumes nothing.
 use mathlib.Core.Path.{◌≡◌, sym, ◌∙◌}
 use borrow.Author.Rules.{rules}
-use borrow.Author.Tests.{not-true, not-false}
 use Rattle.begin.specs.LimitLaws.{limits_hold}
 use Rattle.run.proofs.Testing.{fails_limits, fails_counts, fails_ranks, tables_decide, keyed_by}
 use Rattle.run.proofs.Run.parts_sound.Goals as goal

@@ -2,7 +2,6 @@
 use mathlib.Core.Path.{sym, ◌∙◌}
 use borrow.Author.Rules.{rules}
 use Rattle.run.proofs.Asking.{question_unsound, question_page, question_none}
-use borrow.Author.Tests.{not-true, not-false}
 use Rattle.run.proofs.Run.question_refusal.Goals as goal
 
 pub returns-then-not-is_sound : goal.returns-then-not-is_sound

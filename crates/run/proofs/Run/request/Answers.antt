@@ -4,7 +4,6 @@ use mathlib.Core.Bool.{true, false}
 use mathlib.Core.Path.{◌≡◌, sym, ◌∙◌}
 use native.Mathlib.Omega.{arith}
 use borrow.Author.Rules.{rules}
-use borrow.Author.Tests.{not-true, not-false}
 use Rattle.run.specs.Sound.{sound}
 use Rattle.run.proofs.Testing.{sound_by_parts}
 use Rattle.run.proofs.Requesting.{refuse_unsound, refusal_of_sound, not_refused, requested_refused, requested_served, with_values}

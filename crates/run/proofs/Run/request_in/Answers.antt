@@ -2,7 +2,6 @@
 use mathlib.Core.Path.{◌≡◌, sym, ap, ◌∙◌}
 use native.Mathlib.Omega.{arith}
 use borrow.Author.Rules.{rules}
-use borrow.Author.Tests.{not-true, not-false}
 use Rattle.serve.specs.declared.Event.TheVariants.{Refused}
 use Rattle.run.specs.declared.Served.{Served}
 use Rattle.run.proofs.Storing.{restored_refused, restored_unequal, restored_unsound, restored_accepted, image_fits, run_pages, run_slots, agree_in, sound_in, in_refused, in_accepted, one_unsound, not_one_sound}

@@ -1,7 +1,5 @@
 -- `Run::selection` meets its contract: the keys stand for the run's ranking. Assumes nothing.
 use mathlib.Core.Path.{sym, ◌∙◌}
-use borrow.Author.Rules.{rules}
-use borrow.Author.Tests.{not-true, not-false}
 use Rattle.run.proofs.SoundLaws.{sound_iff}
 use Rattle.run.proofs.Testing.{keyed_by}
 use Rattle.run.proofs.Asking.{selection_refused, selection_told}

@@ -1,8 +1,6 @@
 -- `Run::store_refusal` meets its contract, by its tests. Assumes nothing.
 use mathlib.Core.Path.{sym, ◌∙◌}
 use native.Mathlib.Omega.{arith}
-use borrow.Author.Rules.{rules}
-use borrow.Author.Tests.{not-true, not-false}
 use Rattle.run.proofs.SoundLaws.{sound_iff}
 use Rattle.run.proofs.Storing.{store_unsound, store_short, store_none, length_is}
 use Rattle.run.proofs.Run.store_refusal.Goals as goal

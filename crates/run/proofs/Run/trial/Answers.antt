@@ -1,5 +1,4 @@
 -- `Run::trial` meets its contract: it answers as the request does. Assumes nothing.
-use borrow.Author.Rules.{rules}
 use Rattle.run.specs.Request.{tried}
 use Rattle.run.proofs.Run.trial.Goals as goal
 
