@@ -7,7 +7,7 @@ use Rattle.serve.specs.declared.Event.{Event}
 use Rattle.serve.specs.declared.Event.TheVariants.{Hit, Miss, Refused}
 use Rattle.run.specs.declared.Run.{Run}
 use Rattle.run.specs.declared.Served.{Served}
-use Rattle.run.specs.declared.Reading.TheVariants.{Accepted}
+use Rattle.run.specs.declared.Reading.TheVariants.{Accepted, Refused as Unread}
 use Rattle.paging.specs.Tests.{truth, same_or_not}
 use Rattle.image.specs.Layout.{image_length, pages_in, slots_in, image_refusal, marks_agree}
 use Rattle.image.proofs.Laws.{Read, refusal_read}

@@ -5,7 +5,7 @@ use Rattle.std.proofs.Common.{inl, inr, ⊎_elim, sym, ap, subst, ◌∙◌, ari
 use Rattle.serve.specs.declared.Event.TheVariants.{Hit, Miss, Refused}
 use Rattle.run.specs.declared.Run.{Run}
 use Rattle.run.specs.declared.Served.{Served}
-use Rattle.run.specs.declared.Reading.TheVariants.{Accepted}
+use Rattle.run.specs.declared.Reading.TheVariants.{Accepted, Refused as Unread}
 use Rattle.paging.specs.Tests.{le_or_lt}
 use Rattle.paging.specs.Tables.{table_length, table_at, table_past}
 use Rattle.words.specs.Words.{word_at, put}

@@ -1,4 +1,5 @@
 -- The image reader and writer as the code takes them. Assumes nothing.
+use Rattle.serve.specs.declared.Event.TheVariants.{Refused as Declined}
 use Rattle.std.specs.Prelude.{Bool, true, false, ◌&&◌, List, ◌≡◌, ◌⊎◌, ℕ, ◌+◌, ◌*◌, ◌≤◌, ◌<◌, length, nat_le}
 use Rattle.std.proofs.Math.Path.{refl, sym, ap, subst}
 use Rattle.std.proofs.Common.{◌∙◌, inl, inr, ⊎_elim, arith}

@@ -1,4 +1,5 @@
 -- What one turn of a loop over slots or layers does to what its invariant says. Assumes nothing.
+use Rattle.paging.specs.Count.{count_most as count_at_most}
 use mathlib.Core.Bool.{Bool, true, false, ◌&&◌}
 use mathlib.Core.List.{List}
 use mathlib.Core.Logic.{⊎_elim}
