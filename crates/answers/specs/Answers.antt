@@ -1,8 +1,8 @@
 -- The answers of `ask`, as texts that are written one behind the other. The first word is the refusal, 0 if there is none; a
 -- refused call answers that number alone. Assumes nothing.
-use Rattle.std.specs.Prelude.{List, [], ◌∷◌, ◌++◌, ℕ}
+use Rattle.std.specs.Prelude.{List, [], ◌∷◌, ◌++◌, ℕ, if◌then◌else◌}
 use Rattle.std.proofs.Math.Option.{Option, none, some}
-use Rattle.paging.specs.Sets.{◌=?◌, if◌then◌else◌}
+use Rattle.paging.specs.Sets.{◌=?◌}
 use Rattle.serve.specs.declared.Event.{Event}
 use Rattle.serve.specs.declared.Event.TheVariants.{Hit, Miss, Refused}
 use Rattle.run.specs.declared.Run.{Run}

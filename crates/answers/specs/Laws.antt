@@ -1,11 +1,10 @@
 -- Laws of the answers' texts: the record that is stored, an answer that ends with its refusal or goes on, and words that stand
 -- for something or not. Assumes nothing.
-use Rattle.std.specs.Prelude.{Bool, true, false, not, List, ◌⊎◌, ◌≡◌, refl, ℕ, ◌+◌, ◌≤◌, take}
+use Rattle.std.specs.Prelude.{Bool, true, false, not, List, ◌⊎◌, ◌≡◌, refl, ℕ, ◌+◌, ◌≤◌, take, if◌then◌else◌}
 use Rattle.std.proofs.Common.{inl, inr, sym, ap, ◌∙◌, arith, eq-eqb, ne_eqb}
 use Rattle.std.proofs.Math.Option.{Option, none, some}
 use Rattle.std.proofs.lemmas.Bool.{not-true, not-false}
 use Rattle.std.proofs.Math.ListN.{length}
-use Rattle.paging.specs.Sets.{if◌then◌else◌}
 use Rattle.paging.specs.Tests.{truth, clash}
 use Rattle.words.specs.Laws.{take_put}
 use Rattle.image.specs.Layout.{image_length}

@@ -1,7 +1,7 @@
 -- What the words of a line stand for: numbers below 2^32, runs, a run and a page. Assumes nothing.
-use Rattle.std.specs.Prelude.{true, false, List, [], ◌∷◌, ℕ}
+use Rattle.std.specs.Prelude.{true, false, List, [], ◌∷◌, ℕ, if◌then◌else◌}
 use Rattle.std.proofs.Math.Option.{Option, none, some}
-use Rattle.paging.specs.Sets.{◌=?◌, if◌then◌else◌}
+use Rattle.paging.specs.Sets.{◌=?◌}
 use Rattle.image.specs.Layout.{pages_in, slots_in, image_refusal, marks_agree}
 use Rattle.run.specs.declared.Run.{Run}
 use Rattle.run.specs.Numbers.{blank_run}

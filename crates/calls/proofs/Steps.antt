@@ -1,5 +1,6 @@
 -- What a request's answer goes on with, what a turn of the loop over a set's pages leaves, and a selection's answer. Assumes
 -- nothing.
+use Rattle.std.specs.Prelude.{if◌then◌else◌}
 use mathlib.Core.Bool.{Bool, true, false}
 use mathlib.Core.List.{List, [], ◌∷◌}
 use mathlib.Core.Path.{◌≡◌, refl, sym, ◌∙◌}
@@ -8,7 +9,7 @@ use native.Mathlib.Omega.{arith}
 use borrow.Author.Tests.{eq-eqb, ne_eqb}
 use lib.ListN.{length, get_or, set, take, drop, length-set, drop_of_length-le}
 use lib.Seq.{drop-cons}
-use Rattle.paging.specs.Sets.{if◌then◌else◌, bit}
+use Rattle.paging.specs.Sets.{bit}
 use Rattle.words.specs.Words.{put}
 use Rattle.words.specs.Laws.{put_none}
 use Rattle.serve.specs.declared.Event.{Event}

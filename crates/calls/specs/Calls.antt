@@ -1,6 +1,6 @@
 -- The questions about a run, and their answers as texts. Assumes nothing.
-use Rattle.std.specs.Prelude.{Bool, true, false, List, [], ◌∷◌, ◌++◌, ℕ, suc}
-use Rattle.paging.specs.Sets.{◌=?◌, if◌then◌else◌, bit}
+use Rattle.std.specs.Prelude.{Bool, true, false, List, [], ◌∷◌, ◌++◌, ℕ, suc, if◌then◌else◌}
+use Rattle.paging.specs.Sets.{◌=?◌, bit}
 use Rattle.serve.specs.declared.Event.{Event}
 use Rattle.serve.specs.declared.Event.TheVariants.{Hit, Miss, Refused}
 use Rattle.run.specs.declared.Run.{Run}

@@ -2,8 +2,8 @@
 // answers the offset behind it. Assumes nothing.
 #![tactic(auto)]
 
-ghost use Rattle.std.specs.Prelude.{◌≡◌, ◌+◌, ◌<◌, length, set};
-ghost use Rattle.paging.specs.Sets.{if◌then◌else◌, bit};
+ghost use Rattle.std.specs.Prelude.{◌≡◌, ◌+◌, ◌<◌, length, set, if◌then◌else◌};
+ghost use Rattle.paging.specs.Sets.{bit};
 ghost use Rattle.words.specs.Words.{put};
 ghost use Rattle.hexadecimal.specs.Room.{Wrote};
 ghost use Rattle.answers.specs.Answers.{number_texts, unless_refused};

@@ -1,7 +1,7 @@
 -- The words of a line and the numbers that they stand for. Assumes nothing.
-use Rattle.std.specs.Prelude.{Bool, true, false, ◌&&◌, List, [], ◌∷◌, ℕ, zero, suc, ◌+◌, ◌/◌, ◌%◌, length, take, drop, slice_index_or}
+use Rattle.std.specs.Prelude.{Bool, true, false, ◌&&◌, List, [], ◌∷◌, ℕ, zero, suc, ◌+◌, ◌/◌, ◌%◌, length, take, drop, slice_index_or, if◌then◌else◌}
 use Rattle.std.proofs.Math.Option.{Option, none, some}
-use Rattle.paging.specs.Sets.{◌=?◌, ◌≤?◌, if◌then◌else◌, bit}
+use Rattle.paging.specs.Sets.{◌=?◌, ◌≤?◌, bit}
 use Rattle.words.specs.Words.{put}
 use Rattle.text.specs.Text.{decimal}
 use Rattle.text.specs.Laws.{value_of}

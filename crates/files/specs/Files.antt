@@ -1,6 +1,5 @@
 -- The questions about frames, files and images, and their answers as texts. Assumes nothing.
-use Rattle.std.specs.Prelude.{List, ◌++◌, ℕ}
-use Rattle.paging.specs.Sets.{if◌then◌else◌}
+use Rattle.std.specs.Prelude.{List, ◌++◌, ℕ, if◌then◌else◌}
 use Rattle.ranking.specs.Defaults.{default_priorities}
 use Rattle.run.specs.declared.Run.{Run}
 use Rattle.run.specs.declared.Restored.{Restored}

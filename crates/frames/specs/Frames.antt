@@ -1,6 +1,6 @@
 -- Document 01, 'Frames': filling a slot's frame and looking at it. The frame area has exactly 64k bytes. Assumes nothing.
-use Rattle.std.specs.Prelude.{List, ℕ, ◌*◌, length, take, drop}
-use Rattle.paging.specs.Sets.{◌=?◌, ◌<?◌, if◌then◌else◌, unless◌give◌else◌}
+use Rattle.std.specs.Prelude.{List, ℕ, ◌*◌, length, take, drop, if◌then◌else◌}
+use Rattle.paging.specs.Sets.{◌=?◌, ◌<?◌, unless◌give◌else◌}
 use Rattle.words.specs.Words.{put}
 use Rattle.run.specs.declared.Run.{Run}
 use Rattle.run.specs.Cached.{cached, slot_of}

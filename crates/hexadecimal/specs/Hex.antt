@@ -1,6 +1,6 @@
 -- Bytes in lower-case hexadecimal digits, in ASCII, the high digit first. Assumes nothing.
-use Rattle.std.specs.Prelude.{Bool, true, ◌&&◌, List, [], ◌∷◌, ℕ, ◌+◌, ◌-◌, ◌*◌, ◌/◌, ◌%◌, length}
-use Rattle.paging.specs.Sets.{◌=?◌, ◌≤?◌, ◌<?◌, if◌then◌else◌}
+use Rattle.std.specs.Prelude.{Bool, true, ◌&&◌, List, [], ◌∷◌, ℕ, ◌+◌, ◌-◌, ◌*◌, ◌/◌, ◌%◌, length, if◌then◌else◌}
+use Rattle.paging.specs.Sets.{◌=?◌, ◌≤?◌, ◌<?◌}
 use Rattle.words.specs.Words.{put}
 use Rattle.hexadecimal.specs.declared.Count.{Count}
 use Rattle.hexadecimal.specs.declared.Count.TheVariants.{Of, Refused}

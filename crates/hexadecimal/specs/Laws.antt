@@ -1,10 +1,10 @@
 -- Laws of hexadecimal digits: how many there are, and what is written is read back. Assumes nothing.
-use Rattle.std.specs.Prelude.{Bool, true, false, ◌&&◌, List, [], ◌∷◌, ◌++◌, ◌≡◌, refl, ℕ, zero, suc, ◌+◌, ◌*◌, ◌/◌, ◌%◌, ◌≤◌, ◌<◌, set, slice_index_or}
+use Rattle.std.specs.Prelude.{Bool, true, false, ◌&&◌, List, [], ◌∷◌, ◌++◌, ◌≡◌, refl, ℕ, zero, suc, ◌+◌, ◌*◌, ◌/◌, ◌%◌, ◌≤◌, ◌<◌, set, slice_index_or, if◌then◌else◌}
 use Rattle.std.proofs.Common.{sym, ap, ◌∙◌, add-one, arith, length-append}
 use borrow.Author.Tests.{leb-true, le-leb, lt-leb, le-ltb, lt-ltb, ltb-true, ltb-false, eq-eqb, ne_eqb}
 use Rattle.std.proofs.Math.ListN.{length}
 use Rattle.std.proofs.lemmas.List.{set_split}
-use Rattle.paging.specs.Sets.{◌=?◌, ◌≤?◌, ◌<?◌, if◌then◌else◌}
+use Rattle.paging.specs.Sets.{◌=?◌, ◌≤?◌, ◌<?◌}
 use Rattle.words.specs.Words.{put}
 use Rattle.words.specs.Laws.{Bytes, put_length, put_put, put_none}
 use Rattle.hexadecimal.specs.declared.Count.TheVariants.{Of, Refused}

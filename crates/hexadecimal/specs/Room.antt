@@ -1,6 +1,6 @@
 -- Text put into a buffer at an offset where it has room, and the offset behind it. Assumes nothing.
-use Rattle.std.specs.Prelude.{List, [], ◌∷◌, ◌≡◌, ℕ, ◌+◌, length}
-use Rattle.paging.specs.Sets.{◌≤?◌, if◌then◌else◌}
+use Rattle.std.specs.Prelude.{List, [], ◌∷◌, ◌≡◌, ℕ, ◌+◌, length, if◌then◌else◌}
+use Rattle.paging.specs.Sets.{◌≤?◌}
 use Rattle.words.specs.Words.{put}
 
 -- A text is written where it has room. Without it the buffer stays as it was.

@@ -1,9 +1,10 @@
 -- One of two answers, by how many words there are, and the answer of a line by its words. Assumes nothing.
+use Rattle.std.specs.Prelude.{if◌then◌else◌}
 use mathlib.Core.List.{List}
 use mathlib.Core.Path.{◌≡◌}
 use Prim.Native.Nat.{ℕ, suc}
 use borrow.Author.Tests.{eq-eqb, ne_eqb}
-use Rattle.paging.specs.Sets.{◌=?◌, if◌then◌else◌}
+use Rattle.paging.specs.Sets.{◌=?◌}
 use Rattle.hexadecimal.specs.Room.{Wrote}
 use Rattle.fields.specs.Fields.{word_of, separators}
 use Rattle.answers.specs.Answers.{Texts}

@@ -1,6 +1,6 @@
 -- The questions of `ask` by their first word and how many words there are; every other line is answered `bad line`. Assumes nothing.
-use Rattle.std.specs.Prelude.{List, [], ◌∷◌, ℕ, suc}
-use Rattle.paging.specs.Sets.{◌=?◌, if◌then◌else◌}
+use Rattle.std.specs.Prelude.{List, [], ◌∷◌, ℕ, suc, if◌then◌else◌}
+use Rattle.paging.specs.Sets.{◌=?◌}
 use Rattle.fields.specs.Fields.{word_of, separators, same_text}
 use Rattle.answers.specs.Answers.{Texts, bad_line}
 use Rattle.calls.specs.Calls.{start_answer, request_answer, trial_answer, layer_answer, certain_answer, selection_answer, sound_answer}

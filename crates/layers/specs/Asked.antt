@@ -1,6 +1,6 @@
 -- The layer table: entry q is the layer of page q. Assumes nothing.
-use Rattle.std.specs.Prelude.{List, ◌++◌, ℕ, ◌-◌, drop, slice_index_or}
-use Rattle.paging.specs.Sets.{◌≤?◌, if◌then◌else◌, listed}
+use Rattle.std.specs.Prelude.{List, ◌++◌, ℕ, ◌-◌, drop, slice_index_or, if◌then◌else◌}
+use Rattle.paging.specs.Sets.{◌≤?◌, listed}
 use Rattle.paging.specs.Layers.{next}
 
 abbrev pub layer_at : List ℕ → ℕ → ℕ

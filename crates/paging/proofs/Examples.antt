@@ -1,8 +1,8 @@
 -- Document 01's trace A and its cases P5 and P7, computed over the definitions alone: what they say, and no proof between.
 -- Assumes nothing.
-use Rattle.std.specs.Prelude.{Bool, List, [], ◌∷◌, ◌++◌, map, ◌≡◌, refl, ℕ, zero, suc, slice_index_or}
+use Rattle.std.specs.Prelude.{Bool, List, [], ◌∷◌, ◌++◌, map, ◌≡◌, refl, ℕ, zero, suc, slice_index_or, if◌then◌else◌}
 use Rattle.std.proofs.Math.Option.{Option, some}
-use Rattle.paging.specs.Sets.{◌<?◌, if◌then◌else◌, Pages, count, each, first, lowest, without, remove, insert}
+use Rattle.paging.specs.Sets.{◌<?◌, Pages, count, each, first, lowest, without, remove, insert}
 use Rattle.paging.specs.Layers.{in_layer, start_layer, asked_new, asked_known, next}
 use Rattle.paging.specs.Selection.{highest, together, chosen}
 use Rattle.paging.specs.Victim.{cached_to, full, reach, lowest_to, victim}

@@ -1,6 +1,6 @@
 -- Document 01, 'Counts': what the requests make of the layers and of best. No priority is mentioned. Assumes nothing.
-use Rattle.std.specs.Prelude.{List, [], ◌∷◌, ◌≡◌, ℕ, ◌+◌, ◌-◌, ◌<◌}
-use Rattle.paging.specs.Sets.{◌=?◌, ◌≤?◌, ◌<?◌, if◌then◌else◌, Pages}
+use Rattle.std.specs.Prelude.{List, [], ◌∷◌, ◌≡◌, ℕ, ◌+◌, ◌-◌, ◌<◌, if◌then◌else◌}
+use Rattle.paging.specs.Sets.{◌=?◌, ◌≤?◌, ◌<?◌, Pages}
 use Rattle.paging.specs.Layers.{start_layer, asked_known, next, Layered}
 
 -- The layers of the pages, best, and how many slots are still free: none in document 01's runs.

@@ -1,8 +1,8 @@
 -- Document 01, 'Layers and selection': where each page stands at a start, and where after a request.
 -- `L q` is the number of the layer of page q, so that L_j is the set of all q with L q = j. Assumes nothing.
-use Rattle.std.specs.Prelude.{List, ◌≡◌, ℕ, suc, ◌-◌, ◌≤◌, ◌<◌, length, slice_index_or}
+use Rattle.std.specs.Prelude.{List, ◌≡◌, ℕ, suc, ◌-◌, ◌≤◌, ◌<◌, length, slice_index_or, if◌then◌else◌}
 use Rattle.std.proofs.Math.Option.{Option, none, some}
-use Rattle.paging.specs.Sets.{◌=?◌, ◌<?◌, if◌then◌else◌, Pages, count, first}
+use Rattle.paging.specs.Sets.{◌=?◌, ◌<?◌, Pages, count, first}
 
 -- The layer j.
 abbrev pub in_layer : (ℕ → ℕ) → ℕ → Pages

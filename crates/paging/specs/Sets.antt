@@ -1,5 +1,5 @@
 -- Words for the other files: sets of pages, and lists of numbers. Nothing here is about caches. Assumes nothing.
-use Rattle.std.specs.Prelude.{Bool, true, false, cond, not, ◌&&◌, ◌||◌, List, [], ◌∷◌, ◌++◌, ◌≡◌, ℕ, zero, suc, ◌+◌, ◌-◌, ◌<◌, replicate, nat_eq, nat_le, nat_lt}
+use Rattle.std.specs.Prelude.{Bool, true, false, cond, not, ◌&&◌, ◌||◌, List, [], ◌∷◌, ◌++◌, ◌≡◌, ℕ, zero, suc, ◌+◌, ◌-◌, ◌<◌, replicate, nat_eq, nat_le, nat_lt, if◌then◌else◌}
 use Rattle.std.proofs.Math.Option.{Option, none, some}
 
 -- A set of pages: true of its members.
@@ -31,12 +31,8 @@ a ≤? b = nat_le a b
 abbrev pub ◌⇒◌ : Bool → Bool → Bool
 a ⇒ b = not a || b
 
--- One value or another, by a test.
-infixr 5 if◌then◌else◌
+-- One value or another, by a test: what stands first where the test fails.
 infixr 5 unless◌give◌else◌
-abbrev pub if◌then◌else◌ : {A : Type 0} → Bool → A → A → A
-if t then a else b = cond t a b
-
 abbrev pub unless◌give◌else◌ : {A : Type 0} → Bool → A → A → A
 unless t give a else b = cond t b a
 

@@ -1,8 +1,8 @@
 -- Document 01, 'Layers and selection': the victim of a request that finds its page not cached, for N pages, k slots, a
 -- ranking o, layers L and the cached pages M. Assumes nothing.
-use Rattle.std.specs.Prelude.{Bool, ◌&&◌, ℕ, suc}
+use Rattle.std.specs.Prelude.{Bool, ◌&&◌, ℕ, suc, if◌then◌else◌}
 use Rattle.std.proofs.Math.Option.{Option, none, some}
-use Rattle.paging.specs.Sets.{◌=?◌, ◌≤?◌, if◌then◌else◌, Pages, count, first, lowest}
+use Rattle.paging.specs.Sets.{◌=?◌, ◌≤?◌, Pages, count, first, lowest}
 
 -- The cached pages of layers 1 to j together.
 unfoldable pub cached_to : (ℕ → ℕ) → Pages → ℕ → Pages

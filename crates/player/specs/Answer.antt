@@ -1,6 +1,6 @@
 -- Document 01, 'Traces to work from': what the trace program prints of a file, as bytes. Assumes nothing.
-use Rattle.std.specs.Prelude.{List, [], ◌∷◌, ◌++◌, ℕ, length}
-use Rattle.paging.specs.Sets.{◌=?◌, ◌≤?◌, if◌then◌else◌}
+use Rattle.std.specs.Prelude.{List, [], ◌∷◌, ◌++◌, ℕ, length, if◌then◌else◌}
+use Rattle.paging.specs.Sets.{◌=?◌, ◌≤?◌}
 use Rattle.words.specs.Words.{put}
 use Rattle.run.specs.declared.Run.{Run}
 use Rattle.run.specs.Request.{requested}

@@ -1,13 +1,13 @@
 -- A request as the code takes it: its refusals first, then the serving. Assumes nothing.
 use Rattle.std.proofs.Math.Bool.{Bool}
-use Rattle.std.specs.Prelude.{true, false, ◌⊎◌, ◌≡◌, refl, ℕ, ◌≤◌, ◌<◌, nat_lt}
+use Rattle.std.specs.Prelude.{true, false, ◌⊎◌, ◌≡◌, refl, ℕ, ◌≤◌, ◌<◌, nat_lt, if◌then◌else◌}
 use Rattle.std.proofs.Common.{inl, inr, ap, ◌∙◌, arith}
 use Rattle.std.proofs.Math.Option.{Option, none, some}
 use borrow.Author.Tests.{lt-ltb, le-ltb, ltb-true}
 use Rattle.serve.specs.declared.Event.TheVariants.{Refused}
 use Rattle.run.specs.declared.Run.{Run}
 use Rattle.run.specs.declared.Served.{Served}
-use Rattle.paging.specs.Sets.{if◌then◌else◌, unless◌give◌else◌}
+use Rattle.paging.specs.Sets.{unless◌give◌else◌}
 use Rattle.paging.specs.Tests.{truth}
 use Rattle.counts.specs.Counts.{most_served, page_refusal}
 use Rattle.run.specs.Sound.{Sound, sound}

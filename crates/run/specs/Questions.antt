@@ -1,10 +1,10 @@
 -- Document 01, the answers that have no next run: layer, certain, the plain selection. Assumes nothing.
-use Rattle.std.specs.Prelude.{false, ◌&&◌, ℕ, replicate}
+use Rattle.std.specs.Prelude.{false, ◌&&◌, ℕ, replicate, if◌then◌else◌}
 use Rattle.run.specs.declared.Run.{Run}
 use Rattle.run.specs.declared.LayerAnswer.{LayerAnswer}
 use Rattle.run.specs.declared.CertainAnswer.{CertainAnswer}
 use Rattle.run.specs.declared.SelectionAnswer.{SelectionAnswer}
-use Rattle.paging.specs.Sets.{Pages, ◌=?◌, ◌<?◌, ◌≤?◌, if◌then◌else◌, unless◌give◌else◌, count, table}
+use Rattle.paging.specs.Sets.{Pages, ◌=?◌, ◌<?◌, ◌≤?◌, unless◌give◌else◌, count, table}
 use Rattle.paging.specs.Layers.{in_layer}
 use Rattle.begin.specs.Limits.{most_pages}
 use Rattle.run.specs.Numbers.{layer}

@@ -1,12 +1,12 @@
 -- Document 01, the answer of a request and of a trial. Assumes nothing.
-use Rattle.std.specs.Prelude.{List, ℕ, set}
+use Rattle.std.specs.Prelude.{List, ℕ, set, if◌then◌else◌}
 use Rattle.std.proofs.Math.Option.{Option, none, some}
 use Rattle.run.specs.declared.Run.{Run}
 use Rattle.run.specs.declared.Served.{Served}
 use Rattle.serve.specs.declared.Event.{Event}
 use Rattle.serve.specs.declared.Event.TheVariants.{Hit, Miss, Refused}
 use Rattle.serve.specs.Event.{Values}
-use Rattle.paging.specs.Sets.{◌=?◌, ◌<?◌, if◌then◌else◌, unless◌give◌else◌, bit, table}
+use Rattle.paging.specs.Sets.{◌=?◌, ◌<?◌, unless◌give◌else◌, bit, table}
 use Rattle.paging.specs.Layers.{next}
 use Rattle.begin.specs.Limits.{most_pages}
 use Rattle.counts.specs.declared.Counts.{Counts}

@@ -1,7 +1,7 @@
 -- Document 01, 'House layouts': a run in an image, and the answers of the image reader and writer. The layout itself stands in
 -- Layout of the crate `image`. Assumes nothing.
-use Rattle.std.specs.Prelude.{◌&&◌, List, ℕ, length}
-use Rattle.paging.specs.Sets.{◌=?◌, ◌≤?◌, if◌then◌else◌, unless◌give◌else◌}
+use Rattle.std.specs.Prelude.{◌&&◌, List, ℕ, length, if◌then◌else◌}
+use Rattle.paging.specs.Sets.{◌=?◌, ◌≤?◌, unless◌give◌else◌}
 use Rattle.words.specs.Words.{word_at, put}
 use Rattle.image.specs.Layout.{image_bytes, image_length, pages_in, slots_in, image_refusal, image_layers, image_slots, image_priorities, marks_agree}
 use Rattle.ranking.specs.Ranks.{fixed_ranks}

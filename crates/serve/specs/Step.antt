@@ -1,9 +1,9 @@
 -- One request of a page of a sound run, over the arrays that code keeps: the tables of layers and slots, and by slots the keys of
 -- the pages in them. `o` is the run's ranking, `key q` the key of page q. Assumes nothing.
-use Rattle.std.specs.Prelude.{Bool, ◌&&◌, List, ◌≡◌, ℕ, suc, ◌≤◌, ◌<◌, length, set, slice_index_or}
+use Rattle.std.specs.Prelude.{Bool, ◌&&◌, List, ◌≡◌, ℕ, suc, ◌≤◌, ◌<◌, length, set, slice_index_or, if◌then◌else◌}
 use Rattle.std.proofs.Math.Option
 use Rattle.std.proofs.Math.Option.{Option, none, some}
-use Rattle.paging.specs.Sets.{◌=?◌, ◌≤?◌, if◌then◌else◌, Same, first}
+use Rattle.paging.specs.Sets.{◌=?◌, ◌≤?◌, Same, first}
 use Rattle.paging.specs.Layers.{Layered}
 use Rattle.paging.specs.Selection.{chosen}
 use Rattle.paging.specs.Victim.{victim}

@@ -1,4 +1,5 @@
 -- What one turn of a loop over slots or layers does to what its invariant says. Assumes nothing.
+use Rattle.std.specs.Prelude.{if◌then◌else◌}
 use Rattle.paging.specs.Count.{count_most as count_at_most}
 use mathlib.Core.Bool.{Bool, true, false, ◌&&◌}
 use mathlib.Core.List.{List}
@@ -12,7 +13,7 @@ use native.Mathlib.Omega.{arith}
 use lib.Dec.{eqb}
 use lib.ListN.{length, get_or, set, replicate, get_or-eq_default}
 use borrow.Author.Tests.{eqb-true, eq-eqb, ne_eqb, le-leb, lt-leb}
-use Rattle.paging.specs.Sets.{◌=?◌, ◌≤?◌, if◌then◌else◌, bit, count, or_else, first, listed}
+use Rattle.paging.specs.Sets.{◌=?◌, ◌≤?◌, bit, count, or_else, first, listed}
 use Rattle.paging.specs.Tests.{clash, isnt, and_in, and_right, le_or_lt}
 use Rattle.paging.specs.Words.{first_some, first_is, first_same}
 use Rattle.ranking.specs.Key.{no_key}

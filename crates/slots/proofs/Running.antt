@@ -1,5 +1,6 @@
 -- The running sum and the running minimum over the layers: what a slot adds to its layer, and a layer to those before it.
 -- Assumes nothing.
+use Rattle.std.specs.Prelude.{if◌then◌else◌}
 use mathlib.Core.List.{List}
 use mathlib.Core.Logic.{⊎_elim}
 use mathlib.Core.Path.{◌≡◌, refl, sym, ap, ◌∙◌}
@@ -9,7 +10,7 @@ use native.Mathlib.Omega.{arith}
 use lib.Dec.{eqb, leb}
 use lib.ListN.{get_or, set, replicate}
 use borrow.Author.Tests.{eq-eqb, ne_eqb, le-leb, lt-leb}
-use Rattle.paging.specs.Sets.{if◌then◌else◌, count, listed}
+use Rattle.paging.specs.Sets.{count, listed}
 use Rattle.paging.specs.Tests.{le_or_lt, same_or_not}
 use Rattle.paging.specs.Tables.{listed_entry, listed_set}
 use Rattle.ranking.specs.Key.{no_key}

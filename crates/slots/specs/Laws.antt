@@ -1,6 +1,6 @@
 -- What callers use of the slots: what stands in the tables by slots, where a cached page is, cached pages counted by their
 -- slots, the least key. Assumes nothing.
-use Rattle.std.specs.Prelude.{true, false, ◌&&◌, List, ◌⊎◌, ◌≡◌, length, nat_eq, nat_le, slice_index_or}
+use Rattle.std.specs.Prelude.{true, false, ◌&&◌, List, ◌⊎◌, ◌≡◌, length, nat_eq, nat_le, slice_index_or, if◌then◌else◌}
 use Rattle.std.proofs.Math.Logic.{inl, ⊎_elim}
 use Rattle.std.proofs.Common.{inr, sym, ap, ◌∙◌}
 use Rattle.std.proofs.Math.Option.{Option, none, some}
@@ -8,7 +8,7 @@ use Rattle.std.proofs.Math.Path.{Path, refl}
 use Prim.Native.Nat.{ℕ, zero, suc, ◌+◌, min, ◌≤◌, ◌<◌}
 use native.Mathlib.Omega.{arith}
 use borrow.Author.Tests.{eqb-true, eq-eqb, ne_eqb, leb-true, le-leb, lt-leb}
-use Rattle.paging.specs.Sets.{Pages, ◌∈◌, if◌then◌else◌, bit, count}
+use Rattle.paging.specs.Sets.{Pages, ◌∈◌, bit, count}
 use Rattle.paging.specs.Tests.{truth, clash, isnt, and_in, and_left, and_right, le_or_lt, same_or_not}
 use Rattle.paging.specs.Count.{count_most, count_none, count_same, count_minus}
 use Rattle.paging.specs.Words.{any_in, any_true, first_none, first_some, first_found}

@@ -1,7 +1,7 @@
 -- The slots: entry s of a list h is the page in slot s. By slots also the layer and the key of the page in each. Assumes nothing.
-use Rattle.std.specs.Prelude.{List, ℕ, zero, suc, min, slice_index_or}
+use Rattle.std.specs.Prelude.{List, ℕ, zero, suc, min, slice_index_or, if◌then◌else◌}
 use Rattle.std.proofs.Math.Option.{Option, none, some}
-use Rattle.paging.specs.Sets.{◌=?◌, ◌≤?◌, if◌then◌else◌, Pages, count, any, first, listed, table}
+use Rattle.paging.specs.Sets.{◌=?◌, ◌≤?◌, Pages, count, any, first, listed, table}
 use Rattle.ranking.specs.Key.{no_key}
 use Rattle.slots.specs.declared.Found.{Found}
 use Rattle.slots.specs.declared.Found.TheVariants.{At, Nowhere}

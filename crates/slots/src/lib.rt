@@ -1,8 +1,8 @@
 // The slots of a run: where a page is, and the searches of a miss over the layers and keys of the pages in them. Assumes nothing.
 #![tactic(auto)]
 
-ghost use Rattle.std.specs.Prelude.{◌≡◌, ◌&&◌, ℕ, suc, ◌<◌, ◌≤◌, min, max, slice_index_or};
-ghost use Rattle.paging.specs.Sets.{first, bit, if◌then◌else◌, ◌=?◌, ◌≤?◌, table};
+ghost use Rattle.std.specs.Prelude.{◌≡◌, ◌&&◌, ℕ, suc, ◌<◌, ◌≤◌, min, max, slice_index_or, if◌then◌else◌};
+ghost use Rattle.paging.specs.Sets.{first, bit, ◌=?◌, ◌≤?◌, table};
 ghost use Rattle.ranking.specs.Key.{no_key, key_at};
 ghost use Rattle.slots.specs.Slots.{no_page, seat, found, near_of, keys_of, near_to, tally_of, least_key, leasts_of};
 

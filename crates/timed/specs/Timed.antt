@@ -1,9 +1,9 @@
 -- The misses of a whole trace, and how a loop of requests comes to them. Assumes nothing.
-use Rattle.std.specs.Prelude.{List, ◌≡◌, refl, drop}
+use Rattle.std.specs.Prelude.{List, ◌≡◌, refl, drop, if◌then◌else◌}
 use Rattle.std.proofs.Common.{sym, ◌∙◌, ne_eqb}
 use Prim.Native.Nat.{ℕ, suc, ◌+◌, ◌≤◌, ◌<◌}
 use native.Mathlib.Omega.{arith}
-use Rattle.paging.specs.Sets.{◌=?◌, if◌then◌else◌}
+use Rattle.paging.specs.Sets.{◌=?◌}
 use Rattle.run.specs.declared.Run.{Run}
 use Rattle.run.specs.declared.Served.{Served}
 use Rattle.run.specs.Sound.{Sound}

@@ -1,6 +1,6 @@
 -- Document 01, 'House layouts': a trace file. Assumes nothing.
-use Rattle.std.specs.Prelude.{Bool, ◌&&◌, List, [], ◌∷◌, ◌++◌, ℕ, ◌+◌, ◌*◌, length}
-use Rattle.paging.specs.Sets.{◌=?◌, ◌≤?◌, if◌then◌else◌, unless◌give◌else◌, listed}
+use Rattle.std.specs.Prelude.{Bool, ◌&&◌, List, [], ◌∷◌, ◌++◌, ℕ, ◌+◌, ◌*◌, length, if◌then◌else◌}
+use Rattle.paging.specs.Sets.{◌=?◌, ◌≤?◌, unless◌give◌else◌, listed}
 use Rattle.words.specs.Words.{words, word_at, put}
 use Rattle.begin.specs.Limits.{limits_refusal}
 use Rattle.begin.specs.Begin.{below, different}

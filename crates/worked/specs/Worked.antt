@@ -1,10 +1,10 @@
 -- Document 01, 'Traces to work from': trace A and P1 to P10, one table and one theorem, computed over the definitions that the
 -- contracts of the calls cite. Assumes nothing.
-use Rattle.std.specs.Prelude.{List, [], ◌∷◌, ◌++◌, map, ◌≡◌, refl, ℕ, zero, suc, ◌+◌}
+use Rattle.std.specs.Prelude.{List, [], ◌∷◌, ◌++◌, map, ◌≡◌, refl, ℕ, zero, suc, ◌+◌, if◌then◌else◌}
 use Rattle.serve.specs.declared.Event.{Event}
 use Rattle.serve.specs.declared.Event.TheVariants.{Hit, Miss, Refused}
 use Rattle.run.specs.declared.Run.{Run}
-use Rattle.paging.specs.Sets.{Pages, if◌then◌else◌, count, each, any, first, lowest, listed, table, only}
+use Rattle.paging.specs.Sets.{Pages, count, each, any, first, lowest, listed, table, only}
 use Rattle.paging.specs.Layers.{in_layer, start_layer, asked_new, asked_known, next}
 use Rattle.paging.specs.Selection.{highest, together, chosen}
 use Rattle.paging.specs.Victim.{cached_to, full, reach, lowest_to, victim}
