@@ -18,6 +18,8 @@ NAME = re.compile(rf"(?<![\w'₀-₉→≢◌-])({WORD}(?:-[\w'₀-₉→≢]+)*
 USE = re.compile(r"(?m)^((?:ghost |pub )*use )([^\s{;]+?)(?:\.\{([^}]*)\})?( as [\w-]+)?(;?)$")
 ALIAS = {"eqb": "nat_eq", "ltb": "nat_lt", "leb": "nat_le", "get_or": "slice_index_or"}
 PRELUDE = "Rattle.std.specs.Prelude"
+# a bound name that port.py capitalised, since `new` is a name of its own elsewhere
+BOUND = {"New-is": "new_is"}
 
 
 def own_crates():
@@ -84,6 +86,8 @@ def gather(crates):
 
 def respell(name):
     parts = re.split(r"-", name)
+    if name in BOUND:
+        return BOUND[name]
     # a type; a set or a number that goes by one capital keeps it
     if name[0].isupper() and len(parts[0]) > 1:
         return "".join(p[0].upper() + p[1:] for p in parts)

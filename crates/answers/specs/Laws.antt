@@ -23,7 +23,7 @@ use Rattle.hexadecimal.specs.Laws.{wrote_then, wrote_as}
 use Rattle.fields.specs.declared.Value.{Value}
 use Rattle.fields.specs.declared.Value.TheVariants.{Is, Refused}
 use Rattle.fields.specs.Fields.{word_of, bytes_count, bytes_after, list_in, count_of, list_after, same_text}
-use Rattle.fields.specs.Reading.{some_bytes, no_bytes_in, some_numbers, no_numbers_in, same_told}
+use Rattle.fields.proofs.Reading.{some_bytes, no_bytes_in, some_numbers, no_numbers_in, same_told}
 use Rattle.asked.specs.declared.Described.{Described}
 use Rattle.asked.specs.declared.Paged.{Paged}
 use Rattle.asked.specs.declared.StartWords.{StartWords}

@@ -21,7 +21,7 @@ use Rattle.hexadecimal.specs.Room.{Wrote}
 use Rattle.hexadecimal.specs.Laws.{none_wrote, wrote_then}
 use Rattle.fields.specs.Fields.{list_texts}
 use Rattle.fields.specs.Laws.{put_more}
-use Rattle.fields.specs.Reading.{first_put}
+use Rattle.fields.proofs.Reading.{first_put}
 use Rattle.answers.specs.Answers.{refusal_texts, record_texts, event_texts}
 use Rattle.calls.specs.Calls.{next_texts, served_texts, pages_from, pages_of, selection_texts}
 

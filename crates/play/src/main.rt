@@ -1,19 +1,45 @@
 // Reads a trace file from standard input and prints what becomes of its requests.
 #![tactic(auto)]
 
+ghost use Rattle.std.specs.Prelude.{◌≡◌, length};
+
 use std::io;
 use std::io::Read;
 
-// No trace file is as long, so that what is longer gets the refusal of its header or of its length.
-const LONGEST: u64 = 65536;
-
+// No trace file is as long as the buffer, so that what is longer gets the refusal of its header or of its length.
 fn main(rt: HostRuntime) -> io::Result<()> {
-    let alloc = rt.alloc();
-    let mut file = Vec::new(alloc);
-    rt.stdin().take(LONGEST).read_to_end(&mut file)?;
-    let mut out = vec![in alloc; 0u8; player::ROOM]?;
-    let length = player::answer(&file, &mut out);
+    let mut file = file_buffer();
+    let got = read_full(&mut rt.stdin(), &mut file)?;
+    let mut out = player::buffer();
+    let length = answer_of(&file, got, &mut out);
     print(&rt, &out, length)
+}
+
+fn file_buffer() -> [u8; 65536]
+    ensures { 65536 ≡ length result }
+{
+    [0; 65536]
+}
+
+// Reads until the buffer is full or the input ends, and answers how many bytes it put at the buffer's start.
+fn read_full<R: Read>(reader: &mut R, file: &mut [u8]) -> io::Result<usize> {
+    let mut got = 0;
+    while got < file.len() {
+        let n = reader.read(&mut file[got..])?;
+        if n == 0 {
+            return Ok(got);
+        }
+        got += n;
+    }
+    Ok(got)
+}
+
+// The answer of the first bytes of a buffer.
+fn answer_of<'a>(file: &'a [u8], got: usize, out: &'a mut [u8]) -> usize {
+    if file.len() < got {
+        return 0;
+    }
+    player::answer(&file[..got], out)
 }
 
 // All of it in one piece.

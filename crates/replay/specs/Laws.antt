@@ -90,8 +90,8 @@ module _ (N k : ℕ) (c : Counts) (layer priority held : List ℕ) (w : Sound (s
             t ≡ turned c new e →
             outcome N k t layer' priority held' ≡ requested r p
         unfolding next_run
-        turn_is NewIs t et =
-            step_taken r p new key (page_keys priority) keys e t layer' held' near' keys' w allowed.0 run_keys seated_is.by_key own NewIs steps et
+        turn_is new_is t et =
+            step_taken r p new key (page_keys priority) keys e t layer' held' near' keys' w allowed.0 run_keys seated_is.by_key own new_is steps et
             ∙ sym (requested_served r p (sym (refuse_none r p ((sound_iff r).1 w) allowed.0 allowed.1)))
 
         pub turn_seated : Seated k layer' priority held' near' keys'

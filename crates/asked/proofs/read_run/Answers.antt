@@ -2,7 +2,7 @@
 use mathlib.Core.Path.{sym, ◌∙◌}
 use Prim.Native.Nat.{ℕ}
 use lib.ListN.{length-replicate}
-use Rattle.fields.specs.Reading.{some_bytes, no_bytes_in}
+use Rattle.fields.proofs.Reading.{some_bytes, no_bytes_in}
 use Rattle.asked.specs.Laws.{no_bytes, no_image, an_image}
 use borrow.Author.Rules.{rules}
 use Rattle.asked.proofs.read_run.Goals as goal

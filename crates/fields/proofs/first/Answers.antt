@@ -1,6 +1,6 @@
 -- `fields::first` meets its contract. Assumes nothing.
 use borrow.Author.Rules.{rules}
-use Rattle.fields.specs.Reading.{part_is}
+use Rattle.fields.proofs.Reading.{part_is}
 use Rattle.fields.proofs.Steps.{first_all}
 use Rattle.fields.proofs.first.Goals as goal
 

@@ -1,6 +1,6 @@
 -- `fields::first_numbers` meets its contract. Assumes nothing.
 use borrow.Author.Rules.{rules}
-use Rattle.fields.specs.Reading.{part_is}
+use Rattle.fields.proofs.Reading.{part_is}
 use Rattle.fields.proofs.Steps.{first_all}
 use Rattle.fields.proofs.first_numbers.Goals as goal
 

@@ -1,7 +1,7 @@
 -- `fields::write_number` meets its contract: what is copied are the digits. Assumes nothing.
 use native.Mathlib.Omega.{arith}
 use Rattle.text.specs.Laws.{decimal_short}
-use Rattle.fields.specs.Reading.{first_put}
+use Rattle.fields.proofs.Reading.{first_put}
 use Rattle.fields.proofs.write_number.Goals as goal
 
 pub write_number-count-requires : goal.write_number-count-requires

@@ -2,7 +2,7 @@
 use mathlib.Core.Path.{◌≡◌, refl, sym}
 use native.Mathlib.Omega.{arith}
 use lib.ListN.{length}
-use Rattle.fields.specs.Reading.{part_is, bytes_few}
+use Rattle.fields.proofs.Reading.{part_is, bytes_few}
 use Rattle.answers.specs.Laws.{number_known, number_bad, bytes_known, bytes_bad}
 use Rattle.files.specs.Files.{board_answer}
 use Rattle.files.proofs.Steps.{small_is}

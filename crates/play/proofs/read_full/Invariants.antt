@@ -1,0 +1,9 @@
+-- Each read that gives a byte leaves less of the buffer.
+use Rattle.std.proofs.Common.{◌≤◌, ◌-◌, length}
+use Rattle.play.proofs.read_full.Given as goal
+
+abbrev pub invariant-loop-got : goal.invariant-loop-got
+invariant-loop-got g l = l.got ≤ length l.file
+
+abbrev pub decreases-loop-got : goal.decreases-loop-got
+decreases-loop-got g l = length l.file - l.got
