@@ -1,4 +1,4 @@
--- Each read that gives a byte leaves less of the buffer.
+-- No more was read than the buffer holds, and each read that gives a byte leaves less of it.
 use Rattle.std.proofs.Common.{◌≤◌, ◌-◌, length}
 use Rattle.play.proofs.read_full.Given as goal
 
