@@ -1,5 +1,5 @@
--- One number for a page and its priority, its key, that orders the pages as the ranking does; and what code below a run may rely on
--- where it is given keys: the laws of `Keyed`, and nothing of priorities. Assumes nothing.
+-- Keys that stand for a ranking stand for no other, and tell pages apart; the keys of a table of priorities stand for its ranking.
+-- Assumes nothing.
 use Rattle.std.specs.Prelude.{Bool, true, List, ◌↔◌, ◌≡◌, ℕ, ◌+◌, ◌*◌, ◌-◌, ◌≤◌, ◌<◌, length, nat_lt, slice_index_or}
 use Rattle.std.proofs.Common.{inl, inr, ⊎_elim, sym, ap, ◌∙◌, arith, ltb-true, lt-ltb}
 use Rattle.paging.specs.Tables.{table_at, table_length}

@@ -1,4 +1,4 @@
--- `begin::all_below` meets its contract. The loop's invariant: every entry passed is below `pages`. Assumes nothing.
+-- `begin::all_below` meets its contract, by the invariant of its loop. Assumes nothing.
 use mathlib.Core.Path.{sym}
 use native.Mathlib.Omega.{arith}
 use borrow.Author.Count.{below_more}

@@ -1,4 +1,4 @@
--- `begin::all_below` meets its contract. The loop's invariant: every entry passed is below `pages`. Assumes nothing.
+-- The loop's invariant in `begin::all_below`: every entry passed is below `pages`. Assumes nothing.
 use Prim.Native.Nat.{ℕ, ◌-◌, ◌≤◌, ◌<◌}
 use lib.ListN.{length, get_or}
 use Rattle.begin.proofs.all_below.Given as goal

@@ -1,4 +1,4 @@
--- `begin::all_different` meets its contract. The loop's invariant: no entry passed stood before. Assumes nothing.
+-- `begin::all_different` meets its contract, by the invariant of its loop. Assumes nothing.
 use mathlib.Core.Bool.{true, false}
 use mathlib.Core.List.{List}
 use mathlib.Core.Logic.{⊎_elim}

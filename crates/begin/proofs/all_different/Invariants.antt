@@ -1,4 +1,4 @@
--- `begin::all_different` meets its contract. The loop's invariant: no entry passed stood before. Assumes nothing.
+-- The loop's invariant in `begin::all_different`: no entry passed stood before. Assumes nothing.
 use mathlib.Core.Bool.{Bool, false}
 use mathlib.Core.List.{List}
 use mathlib.Core.Path.{◌≡◌}

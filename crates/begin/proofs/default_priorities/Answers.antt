@@ -1,4 +1,4 @@
--- `begin::default_priorities` meets its contract: after i turns the array is the table of the first i values. Assumes nothing.
+-- `begin::default_priorities` meets its contract, by the invariant of its loop. Assumes nothing.
 use mathlib.Core.Path.{sym, ◌∙◌}
 use native.Mathlib.Omega.{arith}
 use borrow.Author.Rules.{rules}

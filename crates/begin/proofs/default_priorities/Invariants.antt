@@ -1,4 +1,5 @@
--- `begin::default_priorities` meets its contract: after i turns the array is the table of the first i values. Assumes nothing.
+-- The loop's invariant in `begin::default_priorities`: after i turns the array is the table of the first i values. Assumes
+-- nothing.
 use mathlib.Core.Path.{◌≡◌}
 use Prim.Native.Nat.{◌-◌, ◌≤◌}
 use lib.ListN.{get_or}

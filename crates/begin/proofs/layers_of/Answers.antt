@@ -1,4 +1,4 @@
--- `begin::layers_of` meets its contract: after i turns each entry is its page's place among the first i. Assumes nothing.
+-- `begin::layers_of` meets its contract, by the invariant of its loop. Assumes nothing.
 use native.Mathlib.Omega.{arith}
 use borrow.Author.Rules.{rules}
 use Rattle.begin.specs.Laws.{below_true}

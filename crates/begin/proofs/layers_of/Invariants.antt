@@ -1,4 +1,4 @@
--- `begin::layers_of` meets its contract: after i turns each entry is its page's place among the first i. Assumes nothing.
+-- The loop's invariant in `begin::layers_of`: after i turns each entry is its page's place among the first i. Assumes nothing.
 use Prim.Native.Nat.{◌-◌, ◌≤◌}
 use lib.ListN.{length}
 use Rattle.begin.proofs.Places.{Placed}

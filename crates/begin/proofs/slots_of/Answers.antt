@@ -1,4 +1,4 @@
--- `begin::slots_of` meets its contract: after i turns the array is the table of the first i values. Assumes nothing.
+-- `begin::slots_of` meets its contract, by the invariant of its loop. Assumes nothing.
 use native.Mathlib.Omega.{arith}
 use borrow.Author.Rules.{rules}
 use Rattle.begin.specs.Begin.{start_slots}

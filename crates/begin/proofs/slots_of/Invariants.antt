@@ -1,4 +1,4 @@
--- `begin::slots_of` meets its contract: after i turns the array is the table of the first i values. Assumes nothing.
+-- The loop's invariant in `begin::slots_of`: after i turns the array is the table of the first i values. Assumes nothing.
 use mathlib.Core.Path.{◌≡◌}
 use Prim.Native.Nat.{◌-◌, ◌≤◌}
 use lib.ListN.{get_or}

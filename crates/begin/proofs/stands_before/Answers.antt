@@ -1,4 +1,4 @@
--- `begin::stands_before` meets its contract. The loop's invariant: no entry passed is the page. Assumes nothing.
+-- `begin::stands_before` meets its contract, by the invariant of its loop. Assumes nothing.
 use mathlib.Core.Bool.{Bool, false}
 use mathlib.Core.Path.{◌≡◌, sym}
 use Prim.Native.Nat.{ℕ, ◌<◌}

@@ -1,4 +1,4 @@
--- `begin::stands_before` meets its contract. The loop's invariant: no entry passed is the page. Assumes nothing.
+-- The loop's invariant in `begin::stands_before`: no entry passed is the page. Assumes nothing.
 use mathlib.Core.Path.{◌≡◌}
 use Prim.Native.Nat.{ℕ, ◌-◌, ◌≤◌, ◌<◌}
 use lib.ListN.{get_or}

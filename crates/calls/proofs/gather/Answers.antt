@@ -1,4 +1,4 @@
--- `calls::gather` meets its contract: the pages that are left, put behind those that are there, make the whole. Assumes nothing.
+-- `calls::gather` meets its contract, by the invariant of its loop. Assumes nothing.
 use mathlib.Core.Path.{refl}
 use Prim.Native.Nat.{◌-◌}
 use native.Mathlib.Omega.{arith}
@@ -11,13 +11,11 @@ loop-q-init c = (gathering_first _ _, search rules)
 
 pub put_page-n-requires : goal.put_page-n-requires
 put_page-n-requires c =
-    let loop-test = c.loop-q-test in
-    omega (arith, c.loop-q.invariant.0.few, c.loop-q.invariant.0.size, c.requires.1, loop-test.true)
+    omega (arith, c.loop-q.invariant.0.few, c.loop-q.invariant.0.size, c.requires.1, c.loop-q-test.true)
 
 pub loop-q-preserved : goal.loop-q-preserved
 loop-q-preserved c =
-    let loop-test = c.loop-q-test in
-    (gathering_next _ _ _ _ _ c.loop-q.invariant.0 _ _ _ (search rules) (omega (arith, c.loop-q.invariant.0.few, c.loop-q.invariant.0.size, c.requires.1, loop-test.true)) refl (c.put_page-n.ensures.count, c.put_page-n.ensures.numbers), search rules)
+    (gathering_next _ _ _ _ _ c.loop-q.invariant.0 _ _ _ (search rules) (omega (arith, c.loop-q.invariant.0.few, c.loop-q.invariant.0.size, c.requires.1, c.loop-q-test.true)) refl (c.put_page-n.ensures.count, c.put_page-n.ensures.numbers), search rules)
 
 pub shape_of-list : goal.shape_of-list
 shape_of-list c =

@@ -1,4 +1,5 @@
--- `calls::gather` meets its contract: the pages that are left, put behind those that are there, make the whole. Assumes nothing.
+-- The loop's invariant in `calls::gather`: the pages that are left, put behind those that are there, make the whole. Assumes
+-- nothing.
 use Prim.Native.Nat.{◌-◌, ◌≤◌}
 use Rattle.calls.proofs.Steps.{Gathering}
 use Rattle.calls.proofs.gather.Given as goal

@@ -1,5 +1,4 @@
--- `certify::bars` meets its contract. The loop's invariant, of any slots whose tables are read: the entries from j on are the bars
--- of their layers, and `bar` is that of j. Assumes nothing.
+-- `certify::bars` meets its contract, by the invariant of its loop. Assumes nothing.
 use mathlib.Core.Logic.{inl, inr}
 use mathlib.Core.Path.{◌∙◌}
 use borrow.Author.Rules.{rules}

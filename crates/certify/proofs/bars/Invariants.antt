@@ -1,5 +1,5 @@
--- `certify::bars` meets its contract. The loop's invariant, of any slots whose tables are read: the entries from j on are the bars
--- of their layers, and `bar` is that of j. Assumes nothing.
+-- The loop's invariant in `certify::bars`, of any slots whose tables are read: the entries from j on are the bars of their
+-- layers, and `bar` is that of j. Assumes nothing.
 use mathlib.Core.List.{List}
 use Prim.Native.Nat.{ℕ, ◌+◌, ◌≤◌}
 use Rattle.certify.specs.ByLayer.{Tabled}

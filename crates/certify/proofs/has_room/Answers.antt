@@ -1,5 +1,4 @@
--- `certify::has_room` meets its contract. The loop's invariant: `room` says whether there is room in each layer passed. Assumes
--- nothing.
+-- `certify::has_room` meets its contract, by the invariant of its loop. Assumes nothing.
 use mathlib.Core.Path.{refl}
 use borrow.Author.Rules.{rules}
 use Rattle.paging.specs.Sets.{each}

@@ -1,5 +1,4 @@
--- `certify::has_room` meets its contract. The loop's invariant: `room` says whether there is room in each layer passed. Assumes
--- nothing.
+-- The loop's invariant in `certify::has_room`: `room` says whether there is room in each layer passed. Assumes nothing.
 use mathlib.Core.Path.{◌≡◌}
 use Prim.Native.Nat.{suc, ◌+◌, ◌-◌, ◌≤◌}
 use Rattle.paging.specs.Sets.{each}

@@ -1,5 +1,4 @@
--- `certify::mark` meets its contract. The loop's invariant: the slots passed hold different pages below N, and these are marked.
--- Assumes nothing.
+-- `certify::mark` meets its contract, by the invariant of its loop. Assumes nothing.
 use mathlib.Core.Path.{refl}
 use native.Mathlib.Omega.{arith}
 use borrow.Author.Rules.{rules}

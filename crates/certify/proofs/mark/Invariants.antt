@@ -1,5 +1,4 @@
--- `certify::mark` meets its contract. The loop's invariant: the slots passed hold different pages below N, and these are marked.
--- Assumes nothing.
+-- The loop's invariant in `certify::mark`: the slots passed hold different pages below N, and these are marked. Assumes nothing.
 use Prim.Native.Nat.{◌-◌, ◌≤◌}
 use Rattle.certify.proofs.Marks.{Marked}
 use Rattle.certify.proofs.mark.Given as goal

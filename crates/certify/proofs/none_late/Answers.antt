@@ -1,4 +1,4 @@
--- `certify::none_late` meets its contract. The loop's invariant: `all` says whether each page passed is in time. Assumes nothing.
+-- `certify::none_late` meets its contract, by the invariant of its loop. Assumes nothing.
 use Prim.Native.Nat.{◌≤◌}
 use mathlib.Core.Path.{refl, ◌∙◌}
 use native.Mathlib.Omega.{arith}

@@ -1,4 +1,4 @@
--- `certify::none_late` meets its contract. The loop's invariant: `all` says whether each page passed is in time. Assumes nothing.
+-- The loop's invariant in `certify::none_late`: `all` says whether each page passed is in time. Assumes nothing.
 use Prim.Native.Nat.{◌-◌, ◌≤◌}
 use mathlib.Core.Path.{◌≡◌}
 use Rattle.paging.specs.Sets.{each}

@@ -1,4 +1,4 @@
--- `fields::copy` meets its contract. The loop's invariant: the first i bytes stand where they belong. Assumes nothing.
+-- `fields::copy` meets its contract, by the invariant of its loop. Assumes nothing.
 use Prim.Native.Nat.{◌-◌}
 use mathlib.Core.Path.{refl, sym}
 use borrow.Author.Rules.{rules}

@@ -1,4 +1,4 @@
--- `fields::copy` meets its contract. The loop's invariant: the first i bytes stand where they belong. Assumes nothing.
+-- The loop's invariant in `fields::copy`: the first i bytes stand where they belong. Assumes nothing.
 use Prim.Native.Nat.{◌-◌, ◌≤◌}
 use mathlib.Core.Path.{◌≡◌}
 use lib.ListN.{length}

@@ -1,5 +1,4 @@
--- `fields::end_of` meets its contract. The loop's invariant: what is left has as many before its separator as the answer is off.
--- Assumes nothing.
+-- `fields::end_of` meets its contract, by the invariant of its loop. Assumes nothing.
 use Prim.Native.Nat.{◌-◌}
 use mathlib.Core.Path.{refl}
 use native.Mathlib.Omega.{arith}

@@ -1,5 +1,4 @@
--- `fields::end_of` meets its contract. The loop's invariant: what is left has as many before its separator as the answer is off.
--- Assumes nothing.
+-- The loop's invariant in `fields::end_of`: what is left has as many before its separator as the answer is off. Assumes nothing.
 use Prim.Native.Nat.{◌+◌, ◌-◌, ◌≤◌}
 use mathlib.Core.Path.{◌≡◌}
 use lib.ListN.{length}

@@ -1,4 +1,4 @@
--- `fields::list` meets its contract: what is left, read behind what is there, makes the whole. Assumes nothing.
+-- `fields::list` meets its contract, by the invariant of its loop. Assumes nothing.
 use Prim.Native.Nat.{◌-◌, ◌%◌}
 use mathlib.Core.Path.{◌≡◌, sym, ◌∙◌}
 use native.Mathlib.Omega.{arith}

@@ -1,4 +1,4 @@
--- `fields::list` meets its contract: what is left, read behind what is there, makes the whole. Assumes nothing.
+-- The loop's invariant in `fields::list`: what is left, read behind what is there, makes the whole. Assumes nothing.
 use Prim.Native.Nat.{◌-◌}
 use mathlib.Core.Bool.{false}
 use mathlib.Core.Path.{◌≡◌}

@@ -1,4 +1,4 @@
--- `fields::number` meets its contract. The loop's invariant: with the number so far, what is left decides. Assumes nothing.
+-- `fields::number` meets its contract, by the invariant of its loop. Assumes nothing.
 use Prim.Native.Nat.{◌-◌}
 use mathlib.Core.Path.{refl, sym, ◌∙◌}
 use native.Mathlib.Omega.{arith}

@@ -1,4 +1,4 @@
--- `fields::number` meets its contract. The loop's invariant: with the number so far, what is left decides. Assumes nothing.
+-- The loop's invariant in `fields::number`: with the number so far, what is left decides. Assumes nothing.
 use Prim.Native.Nat.{◌-◌, ◌≤◌}
 use mathlib.Core.Path.{◌≡◌}
 use lib.ListN.{length}

@@ -1,5 +1,4 @@
--- `fields::start_of` meets its contract. The loop's invariant: what is left of the line has the word at what is left of its number.
--- Assumes nothing.
+-- `fields::start_of` meets its contract, by the invariant of its loop. Assumes nothing.
 use mathlib.Core.Path.{◌≡◌, refl, ◌∙◌}
 use borrow.Author.Rules.{rules}
 use Rattle.fields.proofs.Steps.{word_next, word_past}

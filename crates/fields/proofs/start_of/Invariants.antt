@@ -1,5 +1,5 @@
--- `fields::start_of` meets its contract. The loop's invariant: what is left of the line has the word at what is left of its number.
--- Assumes nothing.
+-- The loop's invariant in `fields::start_of`: what is left of the line has the word at what is left of its number. Assumes
+-- nothing.
 use Prim.Native.Nat.{◌≤◌}
 use mathlib.Core.Path.{◌≡◌}
 use lib.ListN.{length}

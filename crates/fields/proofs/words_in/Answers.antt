@@ -1,4 +1,4 @@
--- `fields::words_in` meets its contract. The loop's invariant: those counted and those that are left are all. Assumes nothing.
+-- `fields::words_in` meets its contract, by the invariant of its loop. Assumes nothing.
 use Prim.Native.Nat.{◌-◌}
 use native.Mathlib.Omega.{arith}
 use borrow.Author.Rules.{rules}

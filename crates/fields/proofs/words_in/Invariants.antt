@@ -1,4 +1,4 @@
--- `fields::words_in` meets its contract. The loop's invariant: those counted and those that are left are all. Assumes nothing.
+-- The loop's invariant in `fields::words_in`: those counted and those that are left are all. Assumes nothing.
 use Prim.Native.Nat.{suc, ◌+◌, ◌-◌, ◌≤◌}
 use mathlib.Core.Path.{◌≡◌}
 use lib.ListN.{length}

@@ -1,4 +1,4 @@
--- `fields::write_more` meets its contract: what is left, written behind what is there, makes the whole. Assumes nothing.
+-- `fields::write_more` meets its contract, by the invariant of its loop. Assumes nothing.
 use Prim.Native.Nat.{◌-◌}
 use borrow.Author.Rules.{rules}
 use Rattle.fields.proofs.Lists.{listing_first, listing_next, listing_last}

@@ -1,4 +1,4 @@
--- `fields::write_more` meets its contract: what is left, written behind what is there, makes the whole. Assumes nothing.
+-- The loop's invariant in `fields::write_more`: what is left, written behind what is there, makes the whole. Assumes nothing.
 use Prim.Native.Nat.{◌-◌}
 use lib.ListN.{length}
 use Rattle.fields.proofs.Lists.{Listing}

@@ -1,5 +1,4 @@
--- `frames::copy_page` meets its contract. The loop's invariant: the first i bytes are copied, and the rest is as it was.
--- Assumes nothing.
+-- `frames::copy_page` meets its contract, by the invariant of its loop. Assumes nothing.
 use mathlib.Core.Path.{refl, sym}
 use Prim.Native.Nat.{◌-◌}
 use borrow.Author.Rules.{rules}

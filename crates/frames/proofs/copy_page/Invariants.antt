@@ -1,5 +1,4 @@
--- `frames::copy_page` meets its contract. The loop's invariant: the first i bytes are copied, and the rest is as it was.
--- Assumes nothing.
+-- The loop's invariant in `frames::copy_page`: the first i bytes are copied, and the rest is as it was. Assumes nothing.
 use mathlib.Core.Path.{◌≡◌}
 use Prim.Native.Nat.{◌-◌, ◌≤◌}
 use lib.ListN.{length, take}

@@ -1,4 +1,4 @@
--- `hexadecimal::are_digits` meets its contract. The loop's invariant: what is left of the word decides. Assumes nothing.
+-- `hexadecimal::are_digits` meets its contract, by the invariant of its loop. Assumes nothing.
 use mathlib.Core.Path.{refl, sym, ◌∙◌}
 use native.Mathlib.Omega.{arith}
 use borrow.Author.Rules.{rules}

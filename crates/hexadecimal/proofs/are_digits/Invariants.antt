@@ -1,4 +1,4 @@
--- `hexadecimal::are_digits` meets its contract. The loop's invariant: what is left of the word decides. Assumes nothing.
+-- The loop's invariant in `hexadecimal::are_digits`: what is left of the word decides. Assumes nothing.
 use Prim.Native.Nat.{◌-◌, ◌≤◌}
 use mathlib.Core.Path.{◌≡◌}
 use lib.ListN.{length}

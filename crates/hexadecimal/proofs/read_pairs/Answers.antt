@@ -1,4 +1,4 @@
--- `hexadecimal::read_pairs` meets its contract. The loop's invariant: the first i bytes stand at the start. Assumes nothing.
+-- `hexadecimal::read_pairs` meets its contract, by the invariant of its loop. Assumes nothing.
 use mathlib.Core.Path.{refl, sym}
 use borrow.Author.Rules.{rules}
 use lib.ListN.{length-set}

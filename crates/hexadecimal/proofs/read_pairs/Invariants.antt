@@ -1,4 +1,4 @@
--- `hexadecimal::read_pairs` meets its contract. The loop's invariant: the first i bytes stand at the start. Assumes nothing.
+-- The loop's invariant in `hexadecimal::read_pairs`: the first i bytes stand at the start. Assumes nothing.
 use Prim.Native.Nat.{◌-◌, ◌≤◌}
 use mathlib.Core.Path.{◌≡◌}
 use lib.ListN.{length}

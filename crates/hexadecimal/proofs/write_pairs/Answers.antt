@@ -1,5 +1,4 @@
--- `hexadecimal::write_pairs` meets its contract. The loop's invariant: the digits of the first i bytes stand where they belong.
--- Assumes nothing.
+-- `hexadecimal::write_pairs` meets its contract, by the invariant of its loop. Assumes nothing.
 use mathlib.Core.Path.{refl}
 use native.Mathlib.Omega.{arith}
 use borrow.Author.Rules.{rules}

@@ -1,5 +1,4 @@
--- `hexadecimal::write_pairs` meets its contract. The loop's invariant: the digits of the first i bytes stand where they belong.
--- Assumes nothing.
+-- The loop's invariant in `hexadecimal::write_pairs`: the digits of the first i bytes stand where they belong. Assumes nothing.
 use Prim.Native.Nat.{◌-◌, ◌≤◌}
 use mathlib.Core.Path.{◌≡◌}
 use lib.ListN.{length}

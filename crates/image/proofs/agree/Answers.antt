@@ -1,4 +1,4 @@
--- `image::agree` meets its contract. The loop's invariant: the marks passed say cached where the slots do. Assumes nothing.
+-- `image::agree` meets its contract, by the invariant of its loop. Assumes nothing.
 use native.Mathlib.Omega.{arith}
 use borrow.Author.Rules.{rules}
 use borrow.Author.Count.{below_more}

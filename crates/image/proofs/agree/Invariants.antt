@@ -1,4 +1,4 @@
--- `image::agree` meets its contract. The loop's invariant: the marks passed say cached where the slots do. Assumes nothing.
+-- The loop's invariant in `image::agree`: the marks passed say cached where the slots do. Assumes nothing.
 use Prim.Native.Nat.{ℕ, ◌+◌, ◌-◌, ◌≤◌, ◌<◌}
 use mathlib.Core.Path.{◌≡◌}
 use lib.ListN.{get_or}

@@ -1,4 +1,4 @@
--- `image::layers` meets its contract: after q turns the array is the table of the first q layers. Assumes nothing.
+-- The loop's invariant in `image::layers`: after q turns the array is the table of the first q layers. Assumes nothing.
 use Prim.Native.Nat.{◌+◌, ◌-◌, ◌≤◌, ◌%◌}
 use mathlib.Core.Path.{◌≡◌}
 use lib.ListN.{get_or}

@@ -1,4 +1,4 @@
--- `image::priorities` meets its contract: after q turns the array is the table of the first q priorities. Assumes nothing.
+-- `image::priorities` meets its contract, by the invariant of its loop. Assumes nothing.
 use native.Mathlib.Omega.{arith}
 use borrow.Author.Rules.{rules}
 use Rattle.paging.specs.Tables.{fill_none, fill_more, fill_all}

@@ -1,4 +1,4 @@
--- `image::priorities` meets its contract: after q turns the array is the table of the first q priorities. Assumes nothing.
+-- The loop's invariant in `image::priorities`: after q turns the array is the table of the first q priorities. Assumes nothing.
 use Prim.Native.Nat.{◌+◌, ◌*◌, ◌-◌, ◌≤◌}
 use mathlib.Core.Path.{◌≡◌}
 use Rattle.paging.specs.Sets.{table}

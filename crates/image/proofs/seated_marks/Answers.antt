@@ -1,4 +1,4 @@
--- `image::seated_marks` meets its contract. The loop's invariant: the pages in the slots passed are marked. Assumes nothing.
+-- `image::seated_marks` meets its contract, by the invariant of its loop. Assumes nothing.
 use Prim.Native.Nat.{◌<◌}
 use native.Mathlib.Omega.{arith}
 use lib.ListN.{length}

@@ -1,4 +1,4 @@
--- `image::seated_marks` meets its contract. The loop's invariant: the pages in the slots passed are marked. Assumes nothing.
+-- The loop's invariant in `image::seated_marks`: the pages in the slots passed are marked. Assumes nothing.
 use Prim.Native.Nat.{◌-◌, ◌≤◌}
 use Rattle.image.proofs.Seats.{Marked}
 use Rattle.image.proofs.seated_marks.Given as goal

@@ -1,4 +1,4 @@
--- `image::slots` meets its contract: after s turns the array is the table of the first s slots. Assumes nothing.
+-- The loop's invariant in `image::slots`: after s turns the array is the table of the first s slots. Assumes nothing.
 use Prim.Native.Nat.{◌+◌, ◌*◌, ◌-◌, ◌≤◌}
 use mathlib.Core.Path.{◌≡◌}
 use Rattle.paging.specs.Sets.{table}

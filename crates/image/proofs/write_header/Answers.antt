@@ -1,5 +1,4 @@
--- `image::write_header` meets its contract. The loop's invariant: the first i numbers stand where they belong, and the rest is as it was.
--- Assumes nothing.
+-- `image::write_header` meets its contract, by the invariant of its loop. Assumes nothing.
 use mathlib.Core.Path.{refl}
 use borrow.Author.Rules.{rules}
 use Rattle.words.proofs.Steps.{list_none, list_all}

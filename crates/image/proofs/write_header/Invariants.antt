@@ -1,5 +1,5 @@
--- `image::write_header` meets its contract. The loop's invariant: the first i numbers stand where they belong, and the rest is as it was.
--- Assumes nothing.
+-- The loop's invariant in `image::write_header`: the first i numbers stand where they belong, and the rest is as it was. Assumes
+-- nothing.
 use Prim.Native.Nat.{◌-◌, ◌≤◌}
 use mathlib.Core.Path.{◌≡◌}
 use lib.ListN.{length, take}

@@ -1,5 +1,4 @@
--- `image::write_marks` meets its contract. The loop's invariant: the first q marks stand where they belong, and the rest is as it was.
--- Assumes nothing.
+-- `image::write_marks` meets its contract, by the invariant of its loop. Assumes nothing.
 use mathlib.Core.Path.{refl, ap, ◌∙◌}
 use native.Mathlib.Omega.{arith}
 use lib.ListN.{length-set}

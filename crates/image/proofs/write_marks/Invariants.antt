@@ -1,5 +1,5 @@
--- `image::write_marks` meets its contract. The loop's invariant: the first q marks stand where they belong, and the rest is as it was.
--- Assumes nothing.
+-- The loop's invariant in `image::write_marks`: the first q marks stand where they belong, and the rest is as it was. Assumes
+-- nothing.
 use Prim.Native.Nat.{◌-◌, ◌≤◌}
 use mathlib.Core.Path.{◌≡◌}
 use lib.ListN.{length, get_or}

@@ -1,4 +1,4 @@
--- `layers::all_marked` meets its contract: the layers 1 to j are marked. Assumes nothing.
+-- `layers::all_marked` meets its contract, by the invariant of its loop. Assumes nothing.
 use mathlib.Core.Path.{◌≡◌, sym}
 use native.Mathlib.Omega.{arith}
 use borrow.Author.Rules.{rules}

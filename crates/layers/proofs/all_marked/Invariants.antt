@@ -1,4 +1,4 @@
--- `layers::all_marked` meets its contract: the layers 1 to j are marked. Assumes nothing.
+-- The loop's invariant in `layers::all_marked`: the layers 1 to j are marked. Assumes nothing.
 use Prim.Native.Nat.{◌-◌, ◌≤◌}
 use Rattle.layers.proofs.Passes.{Marked}
 use Rattle.layers.proofs.all_marked.Given as goal

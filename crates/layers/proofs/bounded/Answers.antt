@@ -1,4 +1,4 @@
--- `layers::bounded` meets its contract: `most` is at most k where each layer below q is. Assumes nothing.
+-- `layers::bounded` meets its contract, by the invariant of its loop. Assumes nothing.
 use mathlib.Core.Logic.{inl, inr}
 use mathlib.Core.Path.{◌≡◌}
 use native.Mathlib.Omega.{arith}

@@ -1,4 +1,4 @@
--- `layers::bounded` meets its contract: `most` is at most k where each layer below q is. Assumes nothing.
+-- The loop's invariant in `layers::bounded`: `most` is at most k where each layer below q is. Assumes nothing.
 use Prim.Native.Nat.{◌-◌, ◌≤◌}
 use Rattle.layers.proofs.Passes.{Most}
 use Rattle.layers.proofs.bounded.Given as goal

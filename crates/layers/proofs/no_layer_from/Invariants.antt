@@ -1,4 +1,4 @@
--- `layers::no_layer_from` meets its contract: `others` counts the entries passed that are not 0. Assumes nothing.
+-- The loop's invariant in `layers::no_layer_from`: `others` counts the entries passed that are not 0. Assumes nothing.
 use Prim.Native.Nat.{◌-◌, ◌≤◌}
 use Rattle.layers.proofs.Passes.{Others}
 use Rattle.layers.proofs.no_layer_from.Given as goal

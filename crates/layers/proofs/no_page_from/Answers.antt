@@ -1,4 +1,4 @@
--- `layers::no_page_from` meets its contract: `others` counts the entries passed that are not 65535. Assumes nothing.
+-- `layers::no_page_from` meets its contract, by the invariant of its loop. Assumes nothing.
 use mathlib.Core.Logic.{inl, inr}
 use borrow.Author.Rules.{rules}
 use Rattle.layers.proofs.Passes.{others_none, others_step, others_end}

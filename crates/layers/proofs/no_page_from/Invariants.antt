@@ -1,4 +1,4 @@
--- `layers::no_page_from` meets its contract: `others` counts the entries passed that are not 65535. Assumes nothing.
+-- The loop's invariant in `layers::no_page_from`: `others` counts the entries passed that are not 65535. Assumes nothing.
 use Prim.Native.Nat.{◌-◌, ◌≤◌}
 use Rattle.layers.proofs.Passes.{Others}
 use Rattle.layers.proofs.no_page_from.Given as goal

@@ -1,4 +1,4 @@
--- `layers::pages_in` meets its contract: n counts the pages below q. Assumes nothing.
+-- `layers::pages_in` meets its contract, by the invariant of its loop. Assumes nothing.
 use mathlib.Core.Logic.{inl, inr}
 use mathlib.Core.Path.{◌≡◌}
 use native.Mathlib.Omega.{arith}

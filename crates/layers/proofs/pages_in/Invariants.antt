@@ -1,4 +1,4 @@
--- `layers::pages_in` meets its contract: n counts the pages below q. Assumes nothing.
+-- The loop's invariant in `layers::pages_in`: n counts the pages below q. Assumes nothing.
 use Prim.Native.Nat.{◌-◌, ◌≤◌}
 use Rattle.layers.proofs.Passes.{Counted}
 use Rattle.layers.proofs.pages_in.Given as goal

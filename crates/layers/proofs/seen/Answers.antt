@@ -1,4 +1,4 @@
--- `layers::seen` meets its contract: the layers of the pages below q are marked. Assumes nothing.
+-- `layers::seen` meets its contract, by the invariant of its loop. Assumes nothing.
 use mathlib.Core.Path.{◌≡◌}
 use native.Mathlib.Omega.{arith}
 use borrow.Author.Rules.{rules}

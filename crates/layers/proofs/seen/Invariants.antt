@@ -1,4 +1,4 @@
--- `layers::seen` meets its contract: the layers of the pages below q are marked. Assumes nothing.
+-- The loop's invariant in `layers::seen`: the layers of the pages below q are marked. Assumes nothing.
 use mathlib.Core.Path.{◌≡◌}
 use Prim.Native.Nat.{◌-◌, ◌≤◌}
 use Rattle.layers.specs.Asked.{layer_at}

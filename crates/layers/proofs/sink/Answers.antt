@@ -1,4 +1,4 @@
--- `layers::sink` meets its contract: the entries below q are lowered. Assumes nothing.
+-- `layers::sink` meets its contract, by the invariant of its loop. Assumes nothing.
 use mathlib.Core.Path.{◌≡◌}
 use native.Mathlib.Omega.{arith}
 use borrow.Author.Rules.{rules}

@@ -1,4 +1,4 @@
--- `layers::sink` meets its contract: the entries below q are lowered. Assumes nothing.
+-- The loop's invariant in `layers::sink`: the entries below q are lowered. Assumes nothing.
 use mathlib.Core.Path.{◌≡◌}
 use Prim.Native.Nat.{◌-◌, ◌≤◌}
 use Rattle.layers.specs.Asked.{sunk}

@@ -1,4 +1,4 @@
--- `layers::sink_near` meets its contract: the entries below s are lowered. Assumes nothing.
+-- `layers::sink_near` meets its contract, by the invariant of its loop. Assumes nothing.
 use mathlib.Core.Path.{◌≡◌}
 use native.Mathlib.Omega.{arith}
 use borrow.Author.Rules.{rules}

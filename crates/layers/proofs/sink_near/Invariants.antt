@@ -1,4 +1,4 @@
--- `layers::sink_near` meets its contract: the entries below s are lowered. Assumes nothing.
+-- The loop's invariant in `layers::sink_near`: the entries below s are lowered. Assumes nothing.
 use mathlib.Core.Path.{◌≡◌}
 use Prim.Native.Nat.{◌-◌, ◌≤◌}
 use Rattle.layers.specs.Asked.{sunk}

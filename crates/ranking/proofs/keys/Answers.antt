@@ -1,5 +1,4 @@
--- `ranking::keys` meets its contract: after q turns the array is the table of the first q keys, and a read has told that priorities
--- are 16 bits wide. Assumes nothing.
+-- `ranking::keys` meets its contract, by the invariant of its loop. Assumes nothing.
 use native.Mathlib.Omega.{arith}
 use borrow.Author.Rules.{rules}
 use Rattle.paging.specs.Tables.{fill_none, fill_more, fill_all}

@@ -1,5 +1,5 @@
--- `ranking::keys` meets its contract: after q turns the array is the table of the first q keys, and a read has told that priorities
--- are 16 bits wide. Assumes nothing.
+-- The loop's invariant in `ranking::keys`: after q turns the array is the table of the first q keys, and a read has told that
+-- priorities are 16 bits wide. Assumes nothing.
 use mathlib.Core.Path.{◌≡◌}
 use Prim.Native.Nat.{◌-◌, ◌≤◌, ◌<◌}
 use lib.ListN.{get_or}

@@ -1,5 +1,4 @@
--- `replay::play` meets its contract: what is left of the requests makes of the run in hand what all make of the start, and told behind
--- what is told already makes the whole; the arrays and counts are the run in hand. Assumes nothing.
+-- `replay::play` meets its contract, by the invariant of its loop. Assumes nothing.
 use mathlib.Core.Path.{ap}
 use Prim.Native.Nat.{◌-◌}
 use native.Mathlib.Omega.{arith}

@@ -1,5 +1,5 @@
--- `replay::play` meets its contract: what is left of the requests makes of the run in hand what all make of the start, and told behind
--- what is told already makes the whole; the arrays and counts are the run in hand. Assumes nothing.
+-- The loop's invariant in `replay::play`: what is left of the requests makes of the run in hand what all make of the start, and
+-- told behind what is told already makes the whole; the arrays and counts are the run in hand. Assumes nothing.
 use mathlib.Core.Path.{◌≡◌}
 use Prim.Native.Nat.{◌-◌}
 use Rattle.trace.specs.Reading.{asked}

@@ -1,5 +1,4 @@
--- `replay::seat_keys` meets its contract: the table is that of the slots passed, and a read has told that priorities are 16 bits wide.
--- Assumes nothing.
+-- `replay::seat_keys` meets its contract, by the invariant of its loop. Assumes nothing.
 use mathlib.Core.Path.{refl, ap, ◌∙◌}
 use Prim.Native.Nat.{◌-◌, ◌<◌}
 use native.Mathlib.Omega.{arith}

@@ -1,5 +1,5 @@
--- `replay::seat_keys` meets its contract: the table is that of the slots passed, and a read has told that priorities are 16 bits wide.
--- Assumes nothing.
+-- The loop's invariant in `replay::seat_keys`: the table is that of the slots passed, and a read has told that priorities are 16
+-- bits wide. Assumes nothing.
 use mathlib.Core.Path.{◌≡◌}
 use Prim.Native.Nat.{◌-◌, ◌≤◌, ◌<◌}
 use Rattle.ranking.specs.Key.{Narrow, key_at, page_keys}

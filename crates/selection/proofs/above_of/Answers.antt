@@ -1,4 +1,4 @@
--- `selection::above_of` meets its contract. The loop's invariant: the pages below r are counted. Assumes nothing.
+-- `selection::above_of` meets its contract, by the invariant of its loop. Assumes nothing.
 use mathlib.Core.Path.{refl, ◌∙◌}
 use native.Mathlib.Omega.{arith}
 use borrow.Author.Rules.{rules}

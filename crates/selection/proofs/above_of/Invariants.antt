@@ -1,4 +1,4 @@
--- `selection::above_of` meets its contract. The loop's invariant: the pages below r are counted. Assumes nothing.
+-- The loop's invariant in `selection::above_of`: the pages below r are counted. Assumes nothing.
 use mathlib.Core.Bool.{◌&&◌}
 use mathlib.Core.Path.{◌≡◌}
 use Prim.Native.Nat.{◌-◌, ◌≤◌}

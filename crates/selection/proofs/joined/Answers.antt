@@ -1,4 +1,4 @@
--- `selection::joined` meets its contract. The loop's invariant: the marks of the pages below q are stored. Assumes nothing.
+-- `selection::joined` meets its contract, by the invariant of its loop. Assumes nothing.
 use mathlib.Core.Bool.{true}
 use mathlib.Core.Path.{◌∙◌}
 use borrow.Author.Rules.{rules}

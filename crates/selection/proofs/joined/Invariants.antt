@@ -1,4 +1,4 @@
--- `selection::joined` meets its contract. The loop's invariant: the marks of the pages below q are stored. Assumes nothing.
+-- The loop's invariant in `selection::joined`: the marks of the pages below q are stored. Assumes nothing.
 use mathlib.Core.Path.{◌≡◌}
 use Prim.Native.Nat.{◌-◌, ◌≤◌}
 use Rattle.paging.specs.Selection.{together}

@@ -1,5 +1,4 @@
--- `selection::kept` meets its contract. The loop's invariant: the marks of the pages below q are stored; a page that is not
--- in the set keeps the mark that is there. Assumes nothing.
+-- `selection::kept` meets its contract, by the invariant of its loop. Assumes nothing.
 use mathlib.Core.Path.{◌∙◌}
 use borrow.Author.Rules.{rules}
 use Rattle.selection.proofs.Loops.{marks_none, marks_turn, marks_pass, marks_done, highest_in, highest_out}

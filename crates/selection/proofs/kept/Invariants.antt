@@ -1,5 +1,5 @@
--- `selection::kept` meets its contract. The loop's invariant: the marks of the pages below q are stored; a page that is not
--- in the set keeps the mark that is there. Assumes nothing.
+-- The loop's invariant in `selection::kept`: the marks of the pages below q are stored; a page that is not in the set keeps the
+-- mark that is there. Assumes nothing.
 use mathlib.Core.Path.{◌≡◌}
 use Prim.Native.Nat.{◌-◌, ◌≤◌}
 use Rattle.paging.specs.Selection.{highest}

@@ -1,4 +1,4 @@
--- `selection::selected` meets its contract. The loop's invariant: the set is C_j. Assumes nothing.
+-- `selection::selected` meets its contract, by the invariant of its loop. Assumes nothing.
 use borrow.Author.Rules.{rules}
 use Rattle.selection.proofs.Loops.{chosen_none, chosen_turn, chosen_done}
 use Rattle.selection.proofs.selected.Goals as goal

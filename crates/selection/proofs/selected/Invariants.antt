@@ -1,4 +1,4 @@
--- `selection::selected` meets its contract. The loop's invariant: the set is C_j. Assumes nothing.
+-- The loop's invariant in `selection::selected`: the set is C_j. Assumes nothing.
 use mathlib.Core.Path.{◌≡◌}
 use Prim.Native.Nat.{◌-◌, ◌≤◌}
 use Rattle.paging.specs.Selection.{chosen}

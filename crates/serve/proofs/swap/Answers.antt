@@ -1,7 +1,9 @@
 -- `serve::swap` meets its contract, by the laws of Swaps. Assumes nothing.
+use Prim.Native.Nat.{◌<◌}
 use native.Mathlib.Omega.{arith}
 use Rattle.serve.proofs.Swaps.{here, settles, no_victim, no_place, swapped}
 use Rattle.serve.proofs.swap.Goals as goal
+use Rattle.serve.proofs.swap.Goals.{In-At-place}
 
 pub returns-in_default : goal.returns-in_default
 returns-in_default c =
@@ -14,18 +16,20 @@ returns-in_default-place c =
     c.in_default-place.ensures
 
 -- the slot is one of the run's
-pub bounds-held-s : goal.bounds-held-s
-bounds-held-s c =
-    omega (arith, here _ _ _ _ c.in-At-place.ensures, c.requires.ready.slots.1)
+inside : (c : In-At-place) → c.in-At-place.s < 64
+inside c = omega (arith, here _ _ _ _ c.in-At-place.ensures, c.requires.ready.slots.1)
 
 pub offset_bounds-held-s : goal.offset_bounds-held-s
-offset_bounds-held-s c = omega (arith, here _ _ _ _ c.in-At-place.ensures, c.requires.ready.slots.1)
+offset_bounds-held-s c = omega (arith, inside (goal.at.offset_bounds-held-s c).In-At-place)
+
+pub bounds-held-s : goal.bounds-held-s
+bounds-held-s c = omega (arith, inside (goal.at.bounds-held-s c).In-At-place)
 
 pub offset_bounds-keys-s : goal.offset_bounds-keys-s
-offset_bounds-keys-s c = omega (arith, here _ _ _ _ c.in-At-place.ensures, c.requires.ready.slots.1)
+offset_bounds-keys-s c = omega (arith, inside (goal.at.offset_bounds-keys-s c).In-At-place)
 
 pub bounds-keys-s : goal.bounds-keys-s
-bounds-keys-s c = omega (arith, here _ _ _ _ c.in-At-place.ensures, c.requires.ready.slots.1)
+bounds-keys-s c = omega (arith, inside (goal.at.bounds-keys-s c).In-At-place)
 
 pub settle-requires : goal.settle-requires
 settle-requires c =

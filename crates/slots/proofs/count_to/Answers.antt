@@ -1,4 +1,4 @@
--- `slots::count_to` meets its contract. The loop's invariant: n is the count of the slots passed. Assumes nothing.
+-- `slots::count_to` meets its contract, by the invariant of its loop. Assumes nothing.
 use mathlib.Core.Path.{refl, ap, ◌∙◌}
 use Prim.Native.Nat.{ℕ}
 use native.Mathlib.Omega.{arith}

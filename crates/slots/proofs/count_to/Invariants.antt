@@ -1,4 +1,4 @@
--- `slots::count_to` meets its contract. The loop's invariant: n is the count of the slots passed. Assumes nothing.
+-- The loop's invariant in `slots::count_to`: n is the count of the slots passed. Assumes nothing.
 use mathlib.Core.Path.{◌≡◌}
 use Prim.Native.Nat.{◌≤◌, ◌-◌}
 use Rattle.slots.specs.Slots.{near_to}

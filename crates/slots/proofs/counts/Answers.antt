@@ -1,5 +1,4 @@
--- `slots::counts` meets its contract. The loop's invariant: n is the sum of the layers passed, and the table has their entries.
--- Assumes nothing.
+-- `slots::counts` meets its contract, by the invariant of its loop. Assumes nothing.
 use mathlib.Core.Path.{refl}
 use native.Mathlib.Omega.{arith}
 use borrow.Author.Rules.{rules}

@@ -1,5 +1,4 @@
--- `slots::counts` meets its contract. The loop's invariant: n is the sum of the layers passed, and the table has their entries.
--- Assumes nothing.
+-- The loop's invariant in `slots::counts`: n is the sum of the layers passed, and the table has their entries. Assumes nothing.
 use mathlib.Core.Path.{◌≡◌}
 use Prim.Native.Nat.{suc, ◌+◌, ◌-◌, ◌≤◌}
 use Rattle.paging.specs.Sets.{table}

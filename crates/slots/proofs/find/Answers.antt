@@ -1,4 +1,4 @@
--- `slots::find` meets its contract. The loop's invariant: `left` tells the first of the slots passed that holds the page. Assumes nothing.
+-- `slots::find` meets its contract, by the invariant of its loop. Assumes nothing.
 use mathlib.Core.Path.{◌≡◌, refl, ap, ◌∙◌}
 use Prim.Native.Nat.{ℕ, max}
 use native.Mathlib.Omega.{arith}

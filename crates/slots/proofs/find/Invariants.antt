@@ -1,4 +1,4 @@
--- `slots::find` meets its contract. The loop's invariant: `left` tells the first of the slots passed that holds the page. Assumes nothing.
+-- The loop's invariant in `slots::find`: `left` tells the first of the slots passed that holds the page. Assumes nothing.
 use mathlib.Core.Path.{◌≡◌}
 use Prim.Native.Nat.{◌+◌, ◌≤◌, ◌-◌}
 use Rattle.slots.proofs.Loops.{Left}

@@ -1,4 +1,4 @@
--- `slots::keys` meets its contract. The loop's invariant: the table is that of the slots passed. Assumes nothing.
+-- `slots::keys` meets its contract, by the invariant of its loop. Assumes nothing.
 use mathlib.Core.Path.{refl, ap, ◌∙◌}
 use native.Mathlib.Omega.{arith}
 use borrow.Author.Rules.{rules}

@@ -1,4 +1,4 @@
--- `slots::keys` meets its contract. The loop's invariant: the table is that of the slots passed. Assumes nothing.
+-- The loop's invariant in `slots::keys`: the table is that of the slots passed. Assumes nothing.
 use mathlib.Core.Path.{◌≡◌}
 use Prim.Native.Nat.{◌-◌, ◌≤◌}
 use Rattle.ranking.specs.Key.{key_at}

@@ -1,4 +1,4 @@
--- `slots::leasts` meets its contract. The loop's invariant: the least keys are those of the slots passed. Assumes nothing.
+-- `slots::leasts` meets its contract, by the invariant of its loop. Assumes nothing.
 use mathlib.Core.Path.{◌≡◌}
 use native.Mathlib.Omega.{arith}
 use borrow.Author.Rules.{rules}

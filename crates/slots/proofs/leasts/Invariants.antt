@@ -1,4 +1,4 @@
--- `slots::leasts` meets its contract. The loop's invariant: the least keys are those of the slots passed. Assumes nothing.
+-- The loop's invariant in `slots::leasts`: the least keys are those of the slots passed. Assumes nothing.
 use mathlib.Core.Path.{◌≡◌}
 use Prim.Native.Nat.{◌-◌, ◌≤◌}
 use Rattle.slots.specs.Slots.{leasts_of}

@@ -1,4 +1,4 @@
--- `slots::lowest` meets its contract. The loop's invariant: `least` is the least key of the slots passed. Assumes nothing.
+-- `slots::lowest` meets its contract, by the invariant of its loop. Assumes nothing.
 use mathlib.Core.Path.{refl, ap, ◌∙◌}
 use native.Mathlib.Omega.{arith}
 use borrow.Author.Rules.{rules}

@@ -1,4 +1,4 @@
--- `slots::lowest` meets its contract. The loop's invariant: `least` is the least key of the slots passed. Assumes nothing.
+-- The loop's invariant in `slots::lowest`: `least` is the least key of the slots passed. Assumes nothing.
 use mathlib.Core.Path.{◌≡◌}
 use Prim.Native.Nat.{◌≤◌, ◌-◌}
 use Rattle.slots.specs.Slots.{least_key}

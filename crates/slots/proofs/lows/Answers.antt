@@ -1,5 +1,4 @@
--- `slots::lows` meets its contract. The loop's invariant: `low` is the least key of the layers passed, and the table has their
--- entries. Assumes nothing.
+-- `slots::lows` meets its contract, by the invariant of its loop. Assumes nothing.
 use borrow.Author.Rules.{rules}
 use Rattle.paging.specs.Tables.{fill_none, fill_more, fill_all}
 use Rattle.slots.proofs.Running.{least_none, least_passed, least_here}

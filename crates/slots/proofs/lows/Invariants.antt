@@ -1,5 +1,5 @@
--- `slots::lows` meets its contract. The loop's invariant: `low` is the least key of the layers passed, and the table has their
--- entries. Assumes nothing.
+-- The loop's invariant in `slots::lows`: `low` is the least key of the layers passed, and the table has their entries. Assumes
+-- nothing.
 use mathlib.Core.Path.{◌≡◌}
 use Prim.Native.Nat.{suc, ◌+◌, ◌-◌, ◌≤◌}
 use Rattle.paging.specs.Sets.{table}

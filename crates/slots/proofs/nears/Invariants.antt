@@ -1,4 +1,4 @@
--- `slots::nears` meets its contract. The loop's invariant: the table is that of the slots passed. Assumes nothing.
+-- The loop's invariant in `slots::nears`: the table is that of the slots passed. Assumes nothing.
 use mathlib.Core.Path.{◌≡◌}
 use Prim.Native.Nat.{◌-◌, ◌≤◌}
 use Rattle.slots.specs.Slots.{near_of}

@@ -1,4 +1,4 @@
--- `slots::reach` meets its contract. The loop's invariant: no j passed is what is looked for. Assumes nothing.
+-- `slots::reach` meets its contract, by the invariant of its loop. Assumes nothing.
 use mathlib.Core.Path.{ap, ◌∙◌}
 use borrow.Author.Count.{below_more}
 use borrow.Author.Rules.{rules}

@@ -1,4 +1,4 @@
--- `slots::reach` meets its contract. The loop's invariant: no j passed is what is looked for. Assumes nothing.
+-- The loop's invariant in `slots::reach`: no j passed is what is looked for. Assumes nothing.
 use Prim.Native.Nat.{suc, ◌≤◌, ◌-◌}
 use Rattle.slots.proofs.Loops.{Passed, full}
 use Rattle.slots.proofs.reach.Given as goal

@@ -1,5 +1,4 @@
--- `slots::reach_on` meets its contract. The loop's invariant: no j passed is what is looked for, and n is the count up to j.
--- Assumes nothing.
+-- `slots::reach_on` meets its contract, by the invariant of its loop. Assumes nothing.
 use Prim.Native.Nat.{◌+◌}
 use native.Mathlib.Omega.{arith}
 use borrow.Author.Count.{below_more}

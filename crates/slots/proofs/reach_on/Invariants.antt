@@ -1,5 +1,4 @@
--- `slots::reach_on` meets its contract. The loop's invariant: no j passed is what is looked for, and n is the count up to j.
--- Assumes nothing.
+-- The loop's invariant in `slots::reach_on`: no j passed is what is looked for, and n is the count up to j. Assumes nothing.
 use mathlib.Core.Path.{◌≡◌}
 use Prim.Native.Nat.{suc, ◌≤◌, ◌-◌}
 use Rattle.slots.specs.Slots.{near_to, tally_of}

@@ -1,4 +1,4 @@
--- `slots::tally` meets its contract: the sums are those of the slots passed. Assumes nothing.
+-- `slots::tally` meets its contract, by the invariant of its loop. Assumes nothing.
 use mathlib.Core.Path.{◌≡◌}
 use native.Mathlib.Omega.{arith}
 use borrow.Author.Rules.{rules}

@@ -1,4 +1,4 @@
--- `slots::tally` meets its contract: the sums are those of the slots passed. Assumes nothing.
+-- The loop's invariant in `slots::tally`: the sums are those of the slots passed. Assumes nothing.
 use mathlib.Core.Path.{◌≡◌}
 use Prim.Native.Nat.{◌-◌, ◌≤◌}
 use Rattle.slots.specs.Slots.{tally_of}

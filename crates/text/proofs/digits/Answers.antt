@@ -1,5 +1,4 @@
--- `text::digits` meets its contract. The loop's invariant: the digits counted and those of what is left are the number's.
--- Assumes nothing.
+-- `text::digits` meets its contract, by the invariant of its loop. Assumes nothing.
 use native.Mathlib.Omega.{arith}
 use borrow.Author.Rules.{rules}
 use Rattle.text.specs.Laws.{decimal_short}

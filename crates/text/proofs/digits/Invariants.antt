@@ -1,5 +1,4 @@
--- `text::digits` meets its contract. The loop's invariant: the digits counted and those of what is left are the number's.
--- Assumes nothing.
+-- The loop's invariant in `text::digits`: the digits counted and those of what is left are the number's. Assumes nothing.
 use mathlib.Core.Path.{◌≡◌}
 use Prim.Native.Nat.{◌+◌, ◌≤◌}
 use lib.ListN.{length}

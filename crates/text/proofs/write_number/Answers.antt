@@ -1,5 +1,4 @@
--- `text::write_number` meets its contract. The loop's invariant: with the digits that are left put in, the slice is as it is to be.
--- Assumes nothing.
+-- `text::write_number` meets its contract, by the invariant of its loop. Assumes nothing.
 use mathlib.Core.Path.{refl, sym, ◌∙◌}
 use Prim.Native.Nat.{◌-◌}
 use native.Mathlib.Omega.{arith}

@@ -1,5 +1,5 @@
--- `text::write_number` meets its contract. The loop's invariant: with the digits that are left put in, the slice is as it is to be.
--- Assumes nothing.
+-- The loop's invariant in `text::write_number`: with the digits that are left put in, the slice is as it is to be. Assumes
+-- nothing.
 use mathlib.Core.Path.{◌≡◌}
 use Prim.Native.Nat.{◌-◌, ◌≤◌}
 use lib.ListN.{length}

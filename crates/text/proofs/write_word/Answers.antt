@@ -1,5 +1,4 @@
--- `text::write_word` meets its contract. The loop's invariant: the first i bytes stand where they belong, and the rest is as it was.
--- Assumes nothing.
+-- `text::write_word` meets its contract, by the invariant of its loop. Assumes nothing.
 use mathlib.Core.Path.{refl, sym}
 use Prim.Native.Nat.{◌-◌}
 use borrow.Author.Rules.{rules}

@@ -1,5 +1,5 @@
--- `text::write_word` meets its contract. The loop's invariant: the first i bytes stand where they belong, and the rest is as it was.
--- Assumes nothing.
+-- The loop's invariant in `text::write_word`: the first i bytes stand where they belong, and the rest is as it was. Assumes
+-- nothing.
 use mathlib.Core.Path.{◌≡◌}
 use Prim.Native.Nat.{◌-◌, ◌≤◌}
 use lib.ListN.{length, take}

@@ -1,5 +1,4 @@
--- `timed::checked_misses` meets its contract: what is left of the requests makes of the run in hand what all make of the start.
--- Assumes nothing.
+-- `timed::checked_misses` meets its contract, by the invariant of its loop. Assumes nothing.
 use mathlib.Core.Path.{ap}
 use Prim.Native.Nat.{◌-◌}
 use borrow.Author.Rules.{rules}

@@ -1,5 +1,5 @@
--- `timed::checked_misses` meets its contract: what is left of the requests makes of the run in hand what all make of the start.
--- Assumes nothing.
+-- The loop's invariant in `timed::checked_misses`: what is left of the requests makes of the run in hand what all make of the
+-- start. Assumes nothing.
 use Prim.Native.Nat.{◌-◌}
 use Rattle.trace.specs.Reading.{asked}
 use Rattle.timed.specs.Timed.{Going}

@@ -1,4 +1,4 @@
--- `trace::entries` meets its contract: after i turns the array is the table of the first i entries. Assumes nothing.
+-- `trace::entries` meets its contract, by the invariant of its loop. Assumes nothing.
 use Prim.Native.Nat.{◌-◌}
 use native.Mathlib.Omega.{arith}
 use borrow.Author.Rules.{rules}

@@ -1,4 +1,4 @@
--- `trace::entries` meets its contract: after i turns the array is the table of the first i entries. Assumes nothing.
+-- The loop's invariant in `trace::entries`: after i turns the array is the table of the first i entries. Assumes nothing.
 use Prim.Native.Nat.{◌+◌, ◌*◌, ◌-◌, ◌≤◌}
 use mathlib.Core.Path.{◌≡◌}
 use Rattle.paging.specs.Sets.{table}

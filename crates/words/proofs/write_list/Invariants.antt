@@ -1,5 +1,5 @@
--- `words::write_list` meets its contract. The loop's invariant: the first i numbers stand where they belong, and the rest is as it was.
--- Assumes nothing.
+-- The loop's invariant in `words::write_list`: the first i numbers stand where they belong, and the rest is as it was. Assumes
+-- nothing.
 use mathlib.Core.Path.{◌≡◌}
 use Prim.Native.Nat.{◌-◌, ◌≤◌}
 use lib.ListN.{length, take}
