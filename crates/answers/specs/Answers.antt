@@ -1,7 +1,7 @@
 -- The answers of `ask`, as texts that are written one behind the other. The first word is the refusal, 0 if there is none; a
 -- refused call answers that number alone. Assumes nothing.
-use Rattle.std.specs.Prelude.{List, [], ◌∷◌, ◌++◌, ℕ, if◌then◌else◌}
-use Rattle.std.proofs.Math.Option.{Option, none, some}
+use Rattle.refusals.specs.Numbers.{number}
+use Rattle.std.specs.Prelude.{List, [], ◌∷◌, ◌++◌, ℕ, if◌then◌else◌, Option, Some, None}
 use Rattle.paging.specs.Sets.{◌=?◌}
 use Rattle.serve.specs.declared.Event.{Event}
 use Rattle.serve.specs.declared.Event.TheVariants.{Hit, Miss, Refused}
@@ -9,8 +9,6 @@ use Rattle.run.specs.declared.Run.{Run}
 use Rattle.run.specs.Sound.{sound}
 use Rattle.run.specs.Stored.{image_of}
 use Rattle.text.specs.Text.{decimal, space}
-use Rattle.fields.specs.declared.Value.{Value}
-use Rattle.fields.specs.declared.Value.TheVariants as value
 use Rattle.fields.specs.Fields.{word_of, list_in, bytes_in, bytes_word}
 use Rattle.asked.specs.Asked.{most_in_word, number_in, run_of}
 
@@ -43,7 +41,7 @@ unfoldable pub event_texts : Event → ℕ → Texts
 event_texts (Hit slot) best = (48 ∷ 32 ∷ 104 ∷ 105 ∷ 116 ∷ []) ∷ (number_texts slot ++ number_texts best)
 event_texts (Miss slot victim) best =
     (48 ∷ 32 ∷ 115 ∷ 119 ∷ 97 ∷ 112 ∷ []) ∷ (number_texts slot ++ (number_texts victim ++ number_texts best))
-event_texts (Refused n) best = refusal_texts n
+event_texts (Refused n) best = refusal_texts (number n)
 
 -- The refusal; and where it is 0, the rest of an answer behind it.
 unfoldable pub unless_refused : ℕ → Texts → Texts
@@ -51,17 +49,17 @@ unless_refused n rest = if n =? 0 then refusal_texts n ++ rest else refusal_text
 
 -- ---- an answer to a word that stands for something, and `bad line` to any other
 
-unfoldable pub with_number : Value → (ℕ → Texts) → Texts
-with_number (value.Is n) answer = answer n
-with_number value.Refused answer = bad_line
+unfoldable pub with_number : Option ℕ → (ℕ → Texts) → Texts
+with_number (Some n) answer = answer n
+with_number None answer = bad_line
 
 unfoldable pub with_list : Option (List ℕ) → (List ℕ → Texts) → Texts
-with_list (some list) answer = answer list
-with_list none answer = bad_line
+with_list (Some list) answer = answer list
+with_list None answer = bad_line
 
 unfoldable pub with_run : Option Run → (Run → Texts) → Texts
-with_run (some r) answer = answer r
-with_run none answer = bad_line
+with_run (Some r) answer = answer r
+with_run None answer = bad_line
 
 -- The bytes and the numbers of a word of a line.
 unfoldable pub with_bytes : List ℕ → (List ℕ → Texts) → Texts

@@ -1,11 +1,9 @@
 -- Laws of the answers' texts: the record that is stored, an answer that ends with its refusal or goes on, and words that stand
 -- for something or not. Assumes nothing.
-use Rattle.std.specs.Prelude.{Bool, true, false, not, List, ◌⊎◌, ◌≡◌, refl, ℕ, ◌+◌, ◌≤◌, take, if◌then◌else◌}
-use Rattle.std.proofs.Common.{inl, inr, sym, ap, ◌∙◌, arith, eq-eqb, ne_eqb}
-use Rattle.std.proofs.Math.Option.{Option, none, some}
-use Rattle.std.proofs.lemmas.Bool.{not-true, not-false}
+use Rattle.std.specs.Prelude.{Bool, true, false, List, ◌⊎◌, ◌≡◌, refl, ℕ, ◌+◌, ◌≤◌, take, if◌then◌else◌, Option, Some, None}
+use Rattle.std.proofs.Common.{inl, inr, sym, ◌∙◌, arith, eq-eqb, ne_eqb}
 use Rattle.std.proofs.Math.ListN.{length}
-use Rattle.paging.specs.Tests.{truth, clash}
+use Rattle.paging.specs.Tests.{truth}
 use Rattle.words.specs.Laws.{take_put}
 use Rattle.image.specs.Layout.{image_length}
 use Rattle.image.proofs.Theorems.{stored_length}
@@ -15,20 +13,14 @@ use Rattle.run.specs.Sound.{sound}
 use Rattle.run.proofs.SoundLaws.{sound_iff}
 use Rattle.run.specs.Stored.{image_of, stored, stored_bytes}
 use Rattle.run.proofs.Storing.{store_unsound, store_none, length_is}
-use Rattle.hexadecimal.specs.declared.Count.{Count}
-use Rattle.hexadecimal.specs.declared.Count.TheVariants.{Of}
-use Rattle.hexadecimal.specs.declared.Count.TheVariants as counts
 use Rattle.hexadecimal.specs.Room.{Wrote}
 use Rattle.hexadecimal.specs.Laws.{wrote_then, wrote_as}
-use Rattle.fields.specs.declared.Value.{Value}
-use Rattle.fields.specs.declared.Value.TheVariants.{Is, Refused}
 use Rattle.fields.specs.Fields.{word_of, bytes_count, bytes_after, list_in, count_of, list_after, same_text}
 use Rattle.fields.proofs.Reading.{some_bytes, no_bytes_in, some_numbers, no_numbers_in, same_told}
-use Rattle.asked.specs.declared.Described.{Described}
 use Rattle.asked.specs.declared.Paged.{Paged}
 use Rattle.asked.specs.declared.StartWords.{StartWords}
-use Rattle.asked.specs.Asked.{most_in_word, number_in, run_of, described, paged, paged_of, start_words, start_of}
-use Rattle.asked.specs.Laws.{good_run, bad_run, good_page, good_start}
+use Rattle.asked.specs.Asked.{most_in_word, number_in, run_of, paged, paged_of, start_words, start_of}
+use Rattle.asked.specs.Laws.{good_page, good_start}
 use Rattle.answers.specs.Answers.{Texts, bad_line, refusal_texts, record_of, unless_refused, with_number, with_list, with_bytes, with_numbers, with_run, with_page, with_start}
 
 -- ---- the record of a run
@@ -80,99 +72,97 @@ module _ {n : ℕ} {s : List ℕ} {at mid : ℕ} {t : List ℕ} (first : Wrote s
 -- ---- a word that stands for something, or not
 
 module _ {s : List ℕ} {at r : ℕ} {last w word : List ℕ} (w_is : w ≡ word) where
-  module _ {v : Value} (answer : ℕ → Texts) (read : v ≡ number_in w) where
-    pub number_known : {n : ℕ} → v ≡ Is n → Wrote s at (answer n) r last → Wrote s at (with_number (number_in word) answer) r last
+  module _ {v : Option ℕ} (answer : ℕ → Texts) (read : v ≡ number_in w) where
+    pub number_known : {n : ℕ} → v ≡ Some n → Wrote s at (answer n) r last → Wrote s at (with_number (number_in word) answer) r last
     unfolding with_number
     number_known e told = rw (← w_is, ← read, e) told
 
-    pub number_bad : v ≡ Refused → Wrote s at bad_line r last → Wrote s at (with_number (number_in word) answer) r last
+    pub number_bad : v ≡ None → Wrote s at bad_line r last → Wrote s at (with_number (number_in word) answer) r last
     unfolding with_number
     number_bad e told = rw (← w_is, ← read, e) told
 
-  module _ (room : List ℕ) {c : Count} {after : List ℕ} (answer : List ℕ → Texts) (size : most_in_word ≡ length room) where
+  module _ (room : List ℕ) {c : Option ℕ} {after : List ℕ} (answer : List ℕ → Texts) (size : most_in_word ≡ length room) where
     module _ (read : (c ≡ bytes_count w room) × (after ≡ bytes_after w room)) where
-      pub bytes_known : {n : ℕ} {x : List ℕ} → c ≡ Of n → x ≡ take n after → Wrote s at (answer x) r last → Wrote s at (with_bytes word answer) r last
+      pub bytes_known : {n : ℕ} {x : List ℕ} → c ≡ Some n → x ≡ take n after → Wrote s at (answer x) r last → Wrote s at (with_bytes word answer) r last
       unfolding with_bytes with_list
       bytes_known e f told = rw (← w_is, some_bytes w room (sym size) read e f) told
 
-      pub bytes_bad : c ≡ counts.Refused → Wrote s at bad_line r last → Wrote s at (with_bytes word answer) r last
+      pub bytes_bad : c ≡ None → Wrote s at bad_line r last → Wrote s at (with_bytes word answer) r last
       unfolding with_bytes with_list
       bytes_bad e told = rw (← w_is, no_bytes_in w room (sym size) read e) told
 
     module _ (read : (c ≡ count_of (list_in (length room) w)) × (after ≡ list_after w room)) where
-      pub numbers_known : {n : ℕ} {x : List ℕ} → c ≡ Of n → x ≡ take n after → Wrote s at (answer x) r last → Wrote s at (with_numbers word answer) r last
+      pub numbers_known : {n : ℕ} {x : List ℕ} → c ≡ Some n → x ≡ take n after → Wrote s at (answer x) r last → Wrote s at (with_numbers word answer) r last
       unfolding with_numbers with_list
       numbers_known e f told = rw (← w_is, some_numbers w room (sym size) read e f) told
 
-      pub numbers_bad : c ≡ counts.Refused → Wrote s at bad_line r last → Wrote s at (with_numbers word answer) r last
+      pub numbers_bad : c ≡ None → Wrote s at bad_line r last → Wrote s at (with_numbers word answer) r last
       unfolding with_numbers with_list
       numbers_bad e told = rw (← w_is, no_numbers_in w room (sym size) read e) told
 
   -- a record, as it was read
-  module _ {d : Described} (answer : Run → Texts) (read : d ≡ described (run_of w)) where
-    pub run_known : not d.good ≡ false → Wrote s at (answer d.run) r last → Wrote s at (with_run (run_of word) answer) r last
+  module _ {d : Option Run} (answer : Run → Texts) (read : d ≡ run_of w) where
+    pub run_known : {x : Run} → d ≡ Some x → Wrote s at (answer x) r last → Wrote s at (with_run (run_of word) answer) r last
     unfolding with_run
-    run_known g told = rw (← w_is, good_run (run_of w) d read (not-false d.good g)) told
+    run_known e told = rw (← w_is, ← read, e) told
 
-    pub run_bad : not d.good ≡ true → Wrote s at bad_line r last → Wrote s at (with_run (run_of word) answer) r last
+    pub run_bad : d ≡ None → Wrote s at bad_line r last → Wrote s at (with_run (run_of word) answer) r last
     unfolding with_run
-    run_bad g told = rw (← w_is, bad_run (run_of w) d read (not-true d.good g)) told
+    run_bad e told = rw (← w_is, ← read, e) told
 
 -- ---- words that stand for something together, or not
 
 -- a record and a page, of which one is bad
 page_none :
-    (o : Option Run) (v : Value) (x : Paged) (answer : Run → ℕ → Texts) →
-    x ≡ paged o v →
-    x.good ≡ false →
+    (o : Option Run) (v : Option ℕ) (answer : Run → ℕ → Texts) →
+    None ≡ paged o v →
     with_run o (λ r. with_number v (λ p. answer r p)) ≡ bad_line
 unfolding with_run with_number paged
-page_none none v x answer e g = refl
-page_none (some r) Refused x answer e g = refl
-page_none (some r) (Is p) x answer e g = absurd (clash (ap (λ (y : Paged). y.good) e) g)
+page_none None v answer e = refl
+page_none (Some r) None answer e = refl
+page_none (Some r) (Some p) answer e = absurd (cc)
 
 -- the words of a start, of which one is bad
 start_none :
-    (v u : Value) (o : Option (List ℕ)) (x : StartWords) (answer : ℕ → ℕ → List ℕ → Texts) →
-    x ≡ start_words v u (count_of o) →
-    x.good ≡ false →
+    (v u : Option ℕ) (o : Option (List ℕ)) (answer : ℕ → ℕ → List ℕ → Texts) →
+    None ≡ start_words v u (count_of o) →
     with_number v (λ N. with_number u (λ k. with_list o (λ list. answer N k list))) ≡ bad_line
 unfolding with_number with_list start_words count_of
-start_none Refused u o x answer e g = refl
-start_none (Is N) Refused o x answer e g = refl
-start_none (Is N) (Is k) none x answer e g = refl
-start_none (Is N) (Is k) (some list) x answer e g = absurd (clash (ap (λ (y : StartWords). y.good) e) g)
+start_none None u o answer e = refl
+start_none (Some N) None o answer e = refl
+start_none (Some N) (Some k) None answer e = refl
+start_none (Some N) (Some k) (Some list) answer e = absurd (cc)
 
 module _ (line : List ℕ) {s : List ℕ} {at r : ℕ} {last : List ℕ} where
   -- a record and a page, as they were read
-  module _ {x : Paged} (answer : Run → ℕ → Texts) (read : x ≡ paged_of line) where
-    pub page_known : not x.good ≡ false → Wrote s at (answer x.run x.page) r last → Wrote s at (with_page line answer) r last
+  module _ {o : Option Paged} (answer : Run → ℕ → Texts) (read : o ≡ paged_of line) where
+    pub page_known : {x : Paged} → o ≡ Some x → Wrote s at (answer x.run x.page) r last → Wrote s at (with_page line answer) r last
     unfolding with_page with_run with_number paged_of
-    page_known g told =
-        let is = good_page _ _ x read (not-false x.good g) in
+    page_known {x} e told =
+        let is = good_page _ _ x (sym e ∙ read) in
         rw (is.0, is.1) told
 
-    pub page_bad : not x.good ≡ true → Wrote s at bad_line r last → Wrote s at (with_page line answer) r last
+    pub page_bad : o ≡ None → Wrote s at bad_line r last → Wrote s at (with_page line answer) r last
     unfolding with_page paged_of
-    page_bad g told = wrote_as (page_none _ _ x answer read (not-true x.good g)) told
+    page_bad e told = wrote_as (page_none _ _ answer (sym e ∙ read)) told
 
   -- the words of a start, as they were read
-  module _ (room : List ℕ) {x : StartWords} {after : List ℕ} (answer : ℕ → ℕ → List ℕ → Texts) (size : most_in_word ≡ length room) where
-    module _ (read : (x ≡ start_of (length room) line) × (after ≡ list_after (word_of 3 line) room)) where
+  module _ (room : List ℕ) {o : Option StartWords} {after : List ℕ} (answer : ℕ → ℕ → List ℕ → Texts) (size : most_in_word ≡ length room) where
+    module _ (read : (o ≡ start_of (length room) line) × (after ≡ list_after (word_of 3 line) room)) where
       pub start_known :
-          {list : List ℕ} →
-          not x.good ≡ false →
+          {x : StartWords} {list : List ℕ} →
+          o ≡ Some x →
           list ≡ take x.listed after →
           Wrote s at (answer x.pages x.slots list) r last →
           Wrote s at (with_start line answer) r last
       unfolding with_start with_numbers with_number with_list start_of
-      start_known g f told =
-          let is = good_start _ _ _ x read.0 (not-false x.good g) in
+      start_known {x} e f told =
+          let is = good_start _ _ _ x (sym e ∙ read.0) in
           rw (is.0, is.1, some_numbers (word_of 3 line) room (sym size) (refl, read.1) is.2 f) told
 
-      pub start_bad : not x.good ≡ true → Wrote s at bad_line r last → Wrote s at (with_start line answer) r last
+      pub start_bad : o ≡ None → Wrote s at bad_line r last → Wrote s at (with_start line answer) r last
       unfolding with_start with_numbers start_of
-      start_bad g told = wrote_as (start_none _ _ _ x answer (rw (← size) at read.0) (not-true x.good g)) told
+      start_bad e told = wrote_as (start_none _ _ _ answer (rw (← size) at (sym e ∙ read.0))) told
 
 -- ---- one of two answers, by a comparison with a word
 

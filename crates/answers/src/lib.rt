@@ -1,9 +1,11 @@
 // The words of an answer, written at an offset of a lent buffer; each answers the offset behind it. Assumes nothing.
 #![tactic(auto)]
 
+ghost use Rattle.refusals.specs.Numbers.{number_in};
 ghost use Rattle.hexadecimal.specs.Room.{Wrote};
 ghost use Rattle.answers.specs.Answers.{bad_line, refusal_texts, number_texts, bytes_texts, record_texts, event_texts};
 
+use refusals::Refusal;
 use run::Run;
 use serve::Event;
 
@@ -14,11 +16,11 @@ pub fn bad(out: &mut [u8], at: usize) -> usize
     fields::write_word(out, at, b"bad line")
 }
 
-// A refusal alone.
-pub fn refusal(out: &mut [u8], at: usize, number: u8) -> usize
-    ensures { Wrote out.old at (refusal_texts number) result out.new }
+// The number of a refusal, 0 for none.
+pub fn refusal(out: &mut [u8], at: usize, refusal: Option<Refusal>) -> usize
+    ensures { Wrote out.old at (refusal_texts (number_in refusal)) result out.new }
 {
-    fields::write_number(out, at, number as u64)
+    fields::write_number(out, at, u64::from(refusals::number_in(refusal)))
 }
 
 // A space and a number.
@@ -51,18 +53,19 @@ pub fn then_record(out: &mut [u8], at: usize, run: Run) -> usize
 pub fn event(out: &mut [u8], at: usize, event: Event, best: u32) -> usize
     ensures { Wrote out.old at (event_texts event best) result out.new }
 {
+    // Kept as casts: u64 has no From<usize>.
     match event {
         Event::Hit { slot } => {
             let first = fields::write_word(out, at, b"0 hit");
             let second = then_number(out, first, slot as u64);
-            then_number(out, second, best as u64)
+            then_number(out, second, u64::from(best))
         }
         Event::Miss { slot, victim } => {
             let first = fields::write_word(out, at, b"0 swap");
             let second = then_number(out, first, slot as u64);
             let third = then_number(out, second, victim as u64);
-            then_number(out, third, best as u64)
+            then_number(out, third, u64::from(best))
         }
-        Event::Refused { number } => refusal(out, at, number),
+        Event::Refused(refused) => refusal(out, at, Some(refused)),
     }
 }

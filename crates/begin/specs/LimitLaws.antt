@@ -64,3 +64,13 @@ module _ (N k : ℕ) where
           let p = fit_pages N a in
           let s = fit_slots N k b in
           (p.0, p.1, s.0, s.1, s.2)
+
+-- the numbers that the limits give
+pub limits_small : (N k : ℕ) → limits_refusal N k ≤ 3
+unfolding limits_refusal
+limits_small N k = go (truth (pages_fit N)) (truth (slots_fit N k))
+  where
+    go : (pages_fit N ≡ true) ⊎ (pages_fit N ≡ false) → (slots_fit N k ≡ true) ⊎ (slots_fit N k ≡ false) → limits_refusal N k ≤ 3
+    go (inr a) b = rw a (omega arith)
+    go (inl a) (inr b) = rw (a, b) (omega arith)
+    go (inl a) (inl b) = rw (a, b) (omega arith)

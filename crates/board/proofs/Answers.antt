@@ -4,6 +4,7 @@ use mathlib.Core.Path.{◌≡◌, refl, ap, ◌∙◌}
 use Prim.Native.Nat.{ℕ, ◌≤◌, ◌<◌}
 use native.Mathlib.Omega.{arith}
 use lib.ListN.{length}
+use Rattle.refusals.specs.declared.Refusal.{Refusal}
 use Rattle.serve.specs.declared.Event.{Event}
 use Rattle.serve.specs.declared.Event.TheVariants.{Hit, Miss, Refused}
 use Rattle.words.specs.Words.{put}
@@ -16,12 +17,12 @@ use Rattle.board.specs.Board.{Fits, Settles, packed, image_after, board_answer, 
 -- ---- the image after a request
 
 module _ (b : List ℕ) (s : Served) where
-  pub untouched : (e : Event) (n : ℕ) → e ≡ Refused n → b ≡ image_after b s e
+  pub untouched : (e : Event) (n : Refusal) → e ≡ Refused n → b ≡ image_after b s e
   unfolding image_after
   untouched e n h = rw h
 
   -- the code's third case is the refusal, so what is left of a request is a hit or a miss
-  pub written : (e : Event) → ((n : ℕ) → e ≡ Refused n → ⊥) → put b 0 (image_of s.run) ≡ image_after b s e
+  pub written : (e : Event) → ((n : Refusal) → e ≡ Refused n → ⊥) → put b 0 (image_of s.run) ≡ image_after b s e
   unfolding image_after
   written (Hit slot) k = refl
   written (Miss slot victim) k = refl
@@ -40,7 +41,7 @@ write_fits b s f =
     )
 
 -- what a hit or a miss asks for
-pub unrefused : (b : List ℕ) (s : Served) (e : Event) → Settles b s e → ((n : ℕ) → e ≡ Refused n → ⊥) → Fits b s
+pub unrefused : (b : List ℕ) (s : Served) (e : Event) → Settles b s e → ((n : Refusal) → e ≡ Refused n → ⊥) → Fits b s
 unfolding Settles
 unrefused b s (Hit slot) f k = f
 unrefused b s (Miss slot victim) f k = f

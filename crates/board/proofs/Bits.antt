@@ -4,6 +4,9 @@ use Prim.Native.Nat.{ℕ, ◌+◌, ◌*◌, ◌%◌, ◌<◌}
 use native.Mathlib.Nat.{mod-eq_of_lt}
 use native.Mathlib.Omega.{arith}
 use lib.Bits.{bit_or, bit_and, and_mask, or_shifted_r}
+use Rattle.refusals.specs.declared.Refusal.{Refusal}
+use Rattle.refusals.specs.Numbers.{number}
+use Rattle.refusals.specs.Laws.{number_most}
 use Rattle.serve.specs.declared.Event.{Event}
 use Rattle.serve.specs.declared.Event.TheVariants.{Hit, Miss, Refused}
 use Rattle.serve.specs.Event.{values}
@@ -34,6 +37,6 @@ module _ (e : Event) (w : Small e) where
       rw (h, slot_bits slot ls, and_mask victim 10, mod-eq_of_lt lv, or_shifted_r slot 10 victim lv)
       (or_shifted_r 1 16 (slot * 1024 + victim) (omega arith) ∙ omega arith)
 
-pub pack_refused : (e : Event) (n : ℕ) → n < 256 → e ≡ Refused n → n * 16777216 % 4294967296 ≡ packed e
+pub pack_refused : (e : Event) (r : Refusal) (n : ℕ) → n ≡ number r → e ≡ Refused r → n * 16777216 % 4294967296 ≡ packed e
 unfolding packed values
-pack_refused e n l h = rw h (mod-eq_of_lt (omega arith) ∙ omega arith)
+pack_refused e r n is h = rw (h, ← is) (mod-eq_of_lt (omega (arith, is, number_most r)) ∙ omega arith)

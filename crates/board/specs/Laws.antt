@@ -1,5 +1,6 @@
 -- What an accepted image says, and that every outcome of a request to its run can be packed and written over it. Assumes nothing.
-use Rattle.std.specs.Prelude.{Bool, true, false, List, ◌⊎◌, ◌≡◌, refl, ℕ, ◌<◌, length, nat_eq}
+use Rattle.std.specs.Prelude.{Bool, true, false, List, ◌⊎◌, ◌≡◌, refl, ℕ, ◌<◌, length, nat_eq, Ok, Err}
+use Rattle.std.specs.Result.{is_ok}
 use Rattle.std.proofs.Common.{inl, inr, sym, ap, subst, ◌∙◌, arith, eqb-true}
 use Rattle.std.proofs.Math.Logic.{⊎_elim}
 use Rattle.std.proofs.lemmas.Bool.{eqb-false}
@@ -7,8 +8,11 @@ use Rattle.serve.specs.declared.Event.{Event}
 use Rattle.serve.specs.declared.Event.TheVariants.{Hit, Miss, Refused}
 use Rattle.run.specs.declared.Run.{Run}
 use Rattle.run.specs.declared.Served.{Served}
-use Rattle.run.specs.declared.Reading.TheVariants.{Accepted, Refused as Unread}
-use Rattle.paging.specs.Tests.{truth, same_or_not}
+use Rattle.refusals.specs.declared.Refusal.{Refusal}
+use Rattle.refusals.specs.declared.Refusal.TheVariants.{Unsound}
+use Rattle.refusals.specs.Numbers.{number, named}
+use Rattle.refusals.specs.Laws.{number_some}
+use Rattle.paging.specs.Tests.{truth, clash, same_or_not}
 use Rattle.image.specs.Layout.{image_length, pages_in, slots_in, image_refusal, marks_agree}
 use Rattle.image.proofs.Laws.{Read, refusal_read}
 use Rattle.counts.specs.Counts.{most_served}
@@ -16,7 +20,7 @@ use Rattle.run.specs.Sound.{Sound, sound}
 use Rattle.run.proofs.SoundLaws.{sound_iff}
 use Rattle.run.specs.Request.{requested}
 use Rattle.run.specs.Requesting.{request_refusal}
-use Rattle.run.proofs.Requesting.{not_refused, requested_refused}
+use Rattle.run.proofs.Requesting.{not_refused, refused_by, requested_refused}
 use Rattle.run.proofs.RequestLaws.{slot_holds, victim_in}
 use Rattle.run.specs.Stored.{image_run, restored, after_reading, requested_in}
 use Rattle.run.proofs.Storing.{run_pages, run_slots}
@@ -42,9 +46,9 @@ taken_run b none e s =
       total = rw (run_pages b (restored b).run e, run_slots b (restored b).run e) read.total;
     }
 
--- An image is accepted, or refused by a number that is not 0.
+-- An image is accepted, or refused.
 abbrev pub TakenOrNot : List ℕ → Type 0
-TakenOrNot b = (((restored b).event ≡ Accepted) × Taken b) ⊎ ((n : ℕ) × ((restored b).event ≡ Unread n) × (0 < n))
+TakenOrNot b = (((restored b).event ≡ Ok tt) × Taken b) ⊎ ((n : Refusal) × ((restored b).event ≡ Err n))
 
 pub taken_or_not : (b : List ℕ) → TakenOrNot b
 unfolding restored
@@ -62,23 +66,23 @@ taken_or_not b =
         Test (marks_agree (pages_in b) (slots_in b) b) →
         Test (sound (image_run b)) →
         TakenOrNot b
-    go (inr a) c d = inr (image_refusal b, rw a, omega (arith, eqb-false (image_refusal b) 0 a))
-    go (inl a) (inr c) d = inr (1, rw (a, c), omega arith)
-    go (inl a) (inl c) (inr d) = inr (1, rw (a, c, d), omega arith)
+    go (inr a) c d = inr (named (image_refusal b), rw a)
+    go (inl a) (inr c) d = inr (Unsound, rw (a, c))
+    go (inl a) (inl c) (inr d) = inr (Unsound, rw (a, c, d))
     go (inl a) (inl c) (inl d) = inl (rw (a, c, d), taken_run b (eqb-true (image_refusal b) 0 a) (rw (a, c, d)) d)
 
-pub taken : (b : List ℕ) → (restored b).event ≡ Accepted → Taken b
+pub taken : (b : List ℕ) → (restored b).event ≡ Ok tt → Taken b
 taken b h = ⊎_elim (λ t. t.1) (λ u. absurd (other u.0 u.1)) (taken_or_not b)
   where
-    other : (n : ℕ) → (restored b).event ≡ Unread n → ⊥
-    other n e = let z : Unread n ≡ Accepted = sym e ∙ h in let o : ◌≡◌ {A = ℕ} 0 1 = cc in omega arith
+    other : (n : Refusal) → (restored b).event ≡ Err n → ⊥
+    other n e = let o : ◌≡◌ {A = Bool} false true = ap is_ok (sym e ∙ h) in clash refl (sym o)
 
--- ---- a request to a sound run is a hit or a miss, or refused by a number that is not 0: then the run is as it was
+-- ---- a request to a sound run is a hit or a miss, or refused: then the run is as it was
 
 abbrev pub ServedOrNot : Run → ℕ → Type 0
 ServedOrNot r p =
     ((p < r.pages) × (r.counts.served < most_served) × (IsHit r p ⊎ ((v : ℕ) × IsMiss r p v)))
-    ⊎ ((n : ℕ) × (◌≡◌ {A = Served} (requested r p) (record { run = r; event = Refused n; best = 0 })) × (0 < n))
+    ⊎ ((n : Refusal) × (◌≡◌ {A = Served} (requested r p) (record { run = r; event = Refused n; best = 0 })))
 
 pub served_or_not : (r : Run) (p : ℕ) → Sound r → ServedOrNot r p
 served_or_not r p w = ⊎_elim served_is refused_is (same_or_not (request_refusal r p) 0)
@@ -87,7 +91,7 @@ served_or_not r p w = ⊎_elim served_is refused_is (same_or_not (request_refusa
     served_is z = let (_, l, room) = not_refused r p z in inl (l, room, hit_or_miss r w p l room)
 
     refused_is : (request_refusal r p ≡ 0 → ⊥) → ServedOrNot r p
-    refused_is ne = inr (request_refusal r p, sym (requested_refused r p (request_refusal r p) refl ne), omega arith)
+    refused_is ne = let (n, is) = refused_by r p ne in inr (n, sym (requested_refused r p n is))
 
 module _ (r : Run) (p : ℕ) (w : Sound r) where
   -- N and k stay, beside a refusal too
@@ -141,11 +145,11 @@ fits_any b x (Hit slot) f = f
 fits_any b x (Miss slot victim) f = f
 fits_any b x (Refused n) f = tt
 
-read_settles : (b : List ℕ) (p : ℕ) → (restored b).event ≡ Accepted → Taken b → Settles b (requested_in b p) (requested_in b p).event
+read_settles : (b : List ℕ) (p : ℕ) → (restored b).event ≡ Ok tt → Taken b → Settles b (requested_in b p) (requested_in b p).event
 unfolding requested_in after_reading
 read_settles b p h t = rw h (fits_any b (requested (restored b).run p) (requested (restored b).run p).event (request_fits b p t))
 
-unread_settles : (b : List ℕ) (p n : ℕ) → (restored b).event ≡ Unread n → Settles b (requested_in b p) (requested_in b p).event
+unread_settles : (b : List ℕ) (p : ℕ) (n : Refusal) → (restored b).event ≡ Err n → Settles b (requested_in b p) (requested_in b p).event
 unfolding requested_in after_reading Settles
 unread_settles b p n h = rw h tt
 

@@ -1,11 +1,13 @@
 -- What holds of a board call, whose contract is that it answers `board_answer` and leaves `board_image`. The refusal stands in
 -- the answer's bits 24 to 31. Assumes nothing.
-use Rattle.std.specs.Prelude.{List, ◌⊎◌, ◌≡◌, ℕ, ◌+◌, ◌*◌, ◌/◌, ◌≤◌, ◌<◌, length, take, drop, slice_index_or}
+use Rattle.std.specs.Prelude.{List, ◌⊎◌, ◌≡◌, ℕ, ◌+◌, ◌*◌, ◌/◌, ◌≤◌, ◌<◌, length, take, drop, slice_index_or, Ok, Err}
 use Rattle.std.proofs.Common.{inl, inr, ⊎_elim, sym, ap, subst, ◌∙◌, arith, length-drop, length-take-le}
 use Rattle.serve.specs.declared.Event.TheVariants.{Hit, Miss, Refused}
 use Rattle.run.specs.declared.Run.{Run}
 use Rattle.run.specs.declared.Served.{Served}
-use Rattle.run.specs.declared.Reading.TheVariants.{Accepted, Refused as Unread}
+use Rattle.refusals.specs.declared.Refusal.{Refusal}
+use Rattle.refusals.specs.Numbers.{number}
+use Rattle.refusals.specs.Laws.{number_some}
 use Rattle.paging.specs.Tests.{le_or_lt}
 use Rattle.paging.specs.Tables.{table_length, table_at, table_past}
 use Rattle.words.specs.Words.{word_at, put}
@@ -76,14 +78,14 @@ module _ (b : List ℕ) (page : ℕ) where
   abbrev r : Run
   r = (restored b).run
 
-  unread : (n : ℕ) → (restored b).event ≡ Unread n → 0 < n → Kept b page
+  unread : (n : Refusal) → (restored b).event ≡ Err n → Kept b page
   unfolding board_answer board_image requested_in after_reading image_after packed values
-  unread n e pos = record { number = n; some_number = pos; answer = rw e (omega arith); image = rw e }
+  unread n e = record { number = number n; some_number = omega (arith, number_some n); answer = rw e (omega arith); image = rw e }
 
-  module _ (e : (restored b).event ≡ Accepted) (t : Taken b) where
-    refused : (n : ℕ) → (requested r page).event ≡ Refused n → 0 < n → Kept b page
+  module _ (e : (restored b).event ≡ Ok tt) (t : Taken b) where
+    refused : (n : Refusal) → (requested r page).event ≡ Refused n → Kept b page
     unfolding board_answer board_image requested_in after_reading image_after packed values
-    refused n h pos = record { number = n; some_number = pos; answer = rw (e, h) (omega arith); image = rw (e, h) }
+    refused n h = record { number = number n; some_number = omega (arith, number_some n); answer = rw (e, h) (omega arith); image = rw (e, h) }
 
     moved :
         page < r.pages →
@@ -113,11 +115,11 @@ module _ (b : List ℕ) (page : ℕ) where
     read =
         ⊎_elim
         (λ s. inr (⊎_elim (hit s.0 s.1) (λ m. miss s.0 s.1 m.0 m.1) s.2))
-        (λ s. inl (refused s.0 (ap (λ (x : Served). x.event) s.1) s.2))
+        (λ s. inl (refused s.0 (ap (λ (x : Served). x.event) s.1)))
         (served_or_not r page t.sound_is)
 
   pub kept_or_moved : Kept b page ⊎ Moved b page
-  kept_or_moved = ⊎_elim (λ t. read t.0 t.1) (λ u. inl (unread u.0 u.1 u.2)) (taken_or_not b)
+  kept_or_moved = ⊎_elim (λ t. read t.0 t.1) (λ u. inl (unread u.0 u.1)) (taken_or_not b)
 
   -- ---- A refused call leaves every byte of the image as it was.
 
@@ -197,7 +199,7 @@ module _ (b : List ℕ) (page : ℕ) (byte : Bytes b) where
 
   pub served_reads_back :
       board_answer b page / 16777216 ≡ 0 →
-      restored (board_image b page) ≡ record { run = (requested (restored b).run page).run; event = Accepted }
+      restored (board_image b page) ≡ record { run = (requested (restored b).run page).run; event = Ok tt }
   served_reads_back z =
       let m = served_moves b page z in
       rw m.image (stored_reads_back (requested (restored b).run page).run (next_sound m) (next_typed m))

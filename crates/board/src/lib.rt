@@ -38,7 +38,7 @@ fn pack(event: Event) -> u32
         Event::Miss { slot, victim } => {
             (victim as u32 & 1023) | ((slot as u32 & 63) << 10) | (1 << 16)
         }
-        Event::Refused { number } => (number as u32) << 24,
+        Event::Refused(refusal) => u32::from(refusal.number()) << 24,
     }
 }
 
@@ -49,22 +49,10 @@ fn settle(image: &mut [u8], served: Served) -> u32
     ensures bytes { image.new ≡ image_after image.old served served.event }
 {
     let event = served.event;
-    if let Event::Refused { number } = event {
-        return pack(Event::Refused { number });
+    if let Event::Refused(_) = event {
+        return pack(event);
     }
-    let run = served.run;
-    image::write(
-        image,
-        run.pages,
-        run.slots,
-        run.counts.served,
-        run.counts.hits,
-        run.counts.misses,
-        run.counts.best,
-        &run.layer,
-        &run.ranks.priority,
-        &run.held,
-    );
+    served.run.write(image);
     pack(event)
 }
 

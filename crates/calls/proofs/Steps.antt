@@ -1,5 +1,7 @@
 -- What a request's answer goes on with, what a turn of the loop over a set's pages leaves, and a selection's answer. Assumes
 -- nothing.
+use Rattle.refusals.specs.declared.Refusal.{Refusal}
+use Rattle.refusals.specs.Numbers.{number_in}
 use Rattle.std.specs.Prelude.{if◌then◌else◌}
 use mathlib.Core.Bool.{Bool, true, false}
 use mathlib.Core.List.{List, [], ◌∷◌}
@@ -27,25 +29,25 @@ use Rattle.calls.specs.Calls.{next_texts, served_texts, pages_from, pages_of, se
 
 -- ---- a request's answer
 
-refused_next : (e : Event) (n : ℕ) (r : Run) → e ≡ Refused n → next_texts e r ≡ []
+refused_next : (e : Event) (n : Refusal) (r : Run) → e ≡ Refused n → next_texts e r ≡ []
 unfolding next_texts
 refused_next e n r h = rw h
 
 -- the third case is the refusal, so what is left is a hit or a miss
-served_next : (e : Event) (r : Run) → ((n : ℕ) → e ≡ Refused n → ⊥) → next_texts e r ≡ record_texts r
+served_next : (e : Event) (r : Run) → ((n : Refusal) → e ≡ Refused n → ⊥) → next_texts e r ≡ record_texts r
 unfolding next_texts
 served_next (Hit slot) r k = refl
 served_next (Miss slot victim) r k = refl
 served_next (Refused n) r k = absurd (k n refl)
 
 module _ (x : Served) {s : List ℕ} {at mid : ℕ} {t : List ℕ} (first : Wrote s at (event_texts x.event x.best) mid t) where
-  pub refused_served : {n : ℕ} → x.event ≡ Refused n → Wrote s at (served_texts x) mid t
+  pub refused_served : {n : Refusal} → x.event ≡ Refused n → Wrote s at (served_texts x) mid t
   unfolding served_texts
   refused_served {n} e = wrote_then first (rw (refused_next x.event n x.run e) none_wrote)
 
   pub accepted_served :
       {r : ℕ} {last : List ℕ} →
-      ((n : ℕ) → x.event ≡ Refused n → ⊥) →
+      ((n : Refusal) → x.event ≡ Refused n → ⊥) →
       Wrote t mid (record_texts x.run) r last →
       Wrote s at (served_texts x) r last
   unfolding served_texts
@@ -122,14 +124,14 @@ pages_few q (true ∷ marks) = omega (arith, pages_few (suc q) marks)
 pages_few q (false ∷ marks) = omega (arith, pages_few (suc q) marks)
 
 module _ (a : SelectionAnswer) {s : List ℕ} {at r : ℕ} {last : List ℕ} where
-  pub selection_refused : (a.refusal ≡ 0 → ⊥) → Wrote s at (refusal_texts a.refusal) r last → Wrote s at (selection_texts a) r last
+  pub selection_refused : (number_in a.refusal ≡ 0 → ⊥) → Wrote s at (refusal_texts (number_in a.refusal)) r last → Wrote s at (selection_texts a) r last
   unfolding selection_texts
-  selection_refused ne told = rw (ne_eqb a.refusal 0 ne) told
+  selection_refused ne told = rw (ne_eqb (number_in a.refusal) 0 ne) told
 
   -- the first of a buffer are the pages that were gathered in it
   pub selection_wrote :
       (entry : List ℕ) {mid n : ℕ} {t list first : List ℕ} →
-      a.refusal ≡ 0 →
+      number_in a.refusal ≡ 0 →
       length a.pages ≤ length entry →
       (n ≡ length (pages_of a.pages)) × (list ≡ put entry 0 (pages_of a.pages)) →
       first ≡ take n list →
@@ -140,4 +142,4 @@ module _ (a : SelectionAnswer) {s : List ℕ} {at r : ℕ} {last : List ℕ} whe
   selection_wrote entry {n = n} z l p e word told =
       let few = pages_few 0 a.pages in
       let is = first_put entry (pages_from 0 a.pages) {n = n} (omega (arith, few)) (omega (arith, p.0), p.1) e in
-      rw (eq-eqb a.refusal 0 z) (wrote_then word (rw is at told))
+      rw (eq-eqb (number_in a.refusal) 0 z) (wrote_then word (rw is at told))

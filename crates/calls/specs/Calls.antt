@@ -1,4 +1,5 @@
 -- The questions about a run, and their answers as texts. Assumes nothing.
+use Rattle.refusals.specs.Numbers.{number_in}
 use Rattle.std.specs.Prelude.{Bool, true, false, List, [], ◌∷◌, ◌++◌, ℕ, suc, if◌then◌else◌}
 use Rattle.paging.specs.Sets.{◌=?◌, bit}
 use Rattle.serve.specs.declared.Event.{Event}
@@ -21,7 +22,7 @@ use Rattle.answers.specs.Answers.{Texts, refusal_texts, number_texts, record_tex
 -- ---- start N K LIST PRIORITIES, answered `0 RECORD`
 
 unfoldable pub started_texts : Started → Texts
-started_texts s = unless_refused s.refusal (record_texts s.run)
+started_texts s = unless_refused (number_in s.refusal) (record_texts s.run)
 
 unfoldable pub given_texts : ℕ → ℕ → List ℕ → List ℕ → Texts
 given_texts N k list word = with_numbers word (λ priorities. started_texts (started N k list priorities))
@@ -54,13 +55,13 @@ trial_answer line = with_page line (λ r p. event_texts (tried r p).event (tried
 -- ---- layer RECORD PAGE, certain RECORD PAGE: `0 LAYER`, `0 1` or `0 0`
 
 unfoldable pub layer_texts : LayerAnswer → Texts
-layer_texts a = unless_refused a.refusal (number_texts a.layer)
+layer_texts a = unless_refused (number_in a.refusal) (number_texts a.layer)
 
 unfoldable pub layer_answer : List ℕ → Texts
 layer_answer line = with_page line (λ r p. layer_texts (questions.layer_answer r p))
 
 unfoldable pub certain_texts : CertainAnswer → Texts
-certain_texts a = unless_refused a.refusal (number_texts (bit a.certain))
+certain_texts a = unless_refused (number_in a.refusal) (number_texts (bit a.certain))
 
 unfoldable pub certain_answer : List ℕ → Texts
 certain_answer line = with_page line (λ r p. certain_texts (questions.certain_answer r p))
@@ -77,7 +78,7 @@ unfoldable pub pages_of : List Bool → List ℕ
 pages_of = pages_from 0
 
 unfoldable pub selection_texts : SelectionAnswer → Texts
-selection_texts a = if a.refusal =? 0 then (48 ∷ 32 ∷ []) ∷ list_texts (pages_of a.pages) else refusal_texts a.refusal
+selection_texts a = if number_in a.refusal =? 0 then (48 ∷ 32 ∷ []) ∷ list_texts (pages_of a.pages) else refusal_texts (number_in a.refusal)
 
 unfoldable pub selection_answer : List ℕ → Texts
 selection_answer line = with_run (run_of (word_of 1 line)) (λ r. selection_texts (questions.selection_answer r))

@@ -2,15 +2,15 @@
 // answers the offset behind it. Assumes nothing.
 #![tactic(auto)]
 
-ghost use Rattle.std.specs.Prelude.{◌≡◌, ◌+◌, ◌<◌, length, set, if◌then◌else◌};
-ghost use Rattle.paging.specs.Sets.{bit};
+ghost use Rattle.std.specs.Prelude.{◌≡◌, length};
 ghost use Rattle.words.specs.Words.{put};
+ghost use Rattle.refusals.specs.Numbers.{number_in};
 ghost use Rattle.hexadecimal.specs.Room.{Wrote};
 ghost use Rattle.answers.specs.Answers.{number_texts, unless_refused};
-ghost use Rattle.calls.specs.Calls.{pages_of, started_texts, given_texts, prioritised_texts, served_texts};
+ghost use Rattle.calls.specs.Calls.{pages_of, started_texts, prioritised_texts, served_texts};
 ghost use Rattle.calls.specs.Calls.{start_answer, request_answer, trial_answer, layer_answer, certain_answer, selection_answer, sound_answer};
 
-use hexadecimal::Count;
+use refusals::Refusal;
 use run::{Run, Served, Started};
 use serve::Event;
 
@@ -19,38 +19,10 @@ fn started(start: Started, out: &mut [u8], at: usize) -> usize
     ensures { Wrote out.old at (started_texts start) result out.new }
 {
     let next = answers::refusal(out, at, start.refusal);
-    if start.refusal != 0 {
+    if start.refusal.is_some() {
         return next;
     }
     answers::then_record(out, next, start.run)
-}
-
-// A start with the priorities of a list.
-fn start_given<'a>(
-    pages: usize,
-    slots: usize,
-    list: &'a [u16],
-    word: &'a [u8],
-    out: &mut [u8],
-    at: usize,
-) -> usize
-    ensures { Wrote out.old at (given_texts pages slots list.now word.now) result out.new }
-{
-    let mut priorities = asked::number_room();
-    let count = fields::list(word, &mut priorities);
-    let Count::Of(given) = count else {
-        return answers::bad(out, at);
-    };
-    started(
-        Run::start(
-            pages,
-            slots,
-            list,
-            fields::first_numbers(&priorities, given),
-        ),
-        out,
-        at,
-    )
 }
 
 // A start with a word for its priorities: `default`, or a list.
@@ -64,25 +36,29 @@ fn start_by<'a>(
 ) -> usize
     ensures { Wrote out.old at (prioritised_texts pages slots list.now word.now) result out.new }
 {
-    if check::same(word, b"default") {
+    if word == b"default".as_slice() {
         return started(Run::start_default(pages, slots, list), out, at);
     }
-    start_given(pages, slots, list, word, out, at)
+    let mut room = asked::room(0_u16);
+    let Some(given) = fields::list(word, &mut room) else {
+        return answers::bad(out, at);
+    };
+    let priorities = fields::first(&room, given);
+    started(Run::start(pages, slots, list, priorities), out, at)
 }
 
 // start N K LIST PRIORITIES
 pub fn start(line: &[u8], out: &mut [u8], at: usize) -> usize
     ensures { Wrote out.old at (start_answer line.now) result out.new }
 {
-    let mut list = asked::number_room();
-    let words = asked::read_start(line, &mut list);
-    if !words.good {
+    let mut list = asked::room(0_u16);
+    let Some(words) = asked::read_start(line, &mut list) else {
         return answers::bad(out, at);
-    }
+    };
     start_by(
         words.pages,
         words.slots,
-        fields::first_numbers(&list, words.listed),
+        fields::first(&list, words.listed),
         fields::word(line, 4),
         out,
         at,
@@ -93,22 +69,20 @@ pub fn start(line: &[u8], out: &mut [u8], at: usize) -> usize
 fn answered(served: Served, out: &mut [u8], at: usize) -> usize
     ensures { Wrote out.old at (served_texts served) result out.new }
 {
-    let event = served.event;
-    let next = answers::event(out, at, event, served.best);
-    if let Event::Refused { number: _ } = event {
-        return next;
+    let next = answers::event(out, at, served.event, served.best);
+    match served.event {
+        Event::Refused(_) => next,
+        _ => answers::then_record(out, next, served.run),
     }
-    answers::then_record(out, next, served.run)
 }
 
-// request RECORD PAGE
+// request RECORD PAGE. Kept beside trial, layer and certain: what they share is one let-else, and a closure for the rest is longer.
 pub fn request(line: &[u8], out: &mut [u8], at: usize) -> usize
     ensures { Wrote out.old at (request_answer line.now) result out.new }
 {
-    let paged = asked::read_paged(line);
-    if !paged.good {
+    let Some(paged) = asked::read_paged(line) else {
         return answers::bad(out, at);
-    }
+    };
     answered(paged.run.request(paged.page), out, at)
 }
 
@@ -116,21 +90,19 @@ pub fn request(line: &[u8], out: &mut [u8], at: usize) -> usize
 pub fn trial(line: &[u8], out: &mut [u8], at: usize) -> usize
     ensures { Wrote out.old at (trial_answer line.now) result out.new }
 {
-    let paged = asked::read_paged(line);
-    if !paged.good {
+    let Some(paged) = asked::read_paged(line) else {
         return answers::bad(out, at);
-    }
+    };
     let served = paged.run.trial(paged.page);
-    let event = served.event;
-    answers::event(out, at, event, served.best)
+    answers::event(out, at, served.event, served.best)
 }
 
-// A refusal, and where it is 0 a number behind it.
-fn number_unless(refusal: u8, n: u64, out: &mut [u8], at: usize) -> usize
-    ensures { Wrote out.old at (unless_refused refusal (number_texts n)) result out.new }
+// The number of a refusal, and where it is 0 a number behind it.
+fn number_unless(refusal: Option<Refusal>, n: u64, out: &mut [u8], at: usize) -> usize
+    ensures { Wrote out.old at (unless_refused (number_in refusal) (number_texts n)) result out.new }
 {
     let next = answers::refusal(out, at, refusal);
-    if refusal != 0 {
+    if refusal.is_some() {
         return next;
     }
     answers::then_number(out, next, n)
@@ -140,37 +112,22 @@ fn number_unless(refusal: u8, n: u64, out: &mut [u8], at: usize) -> usize
 pub fn layer(line: &[u8], out: &mut [u8], at: usize) -> usize
     ensures { Wrote out.old at (layer_answer line.now) result out.new }
 {
-    let paged = asked::read_paged(line);
-    if !paged.good {
+    let Some(paged) = asked::read_paged(line) else {
         return answers::bad(out, at);
-    }
+    };
     let answer = paged.run.layer(paged.page);
-    number_unless(answer.refusal, answer.layer as u64, out, at)
+    number_unless(answer.refusal, u64::from(answer.layer), out, at)
 }
 
 // certain RECORD PAGE
 pub fn certain(line: &[u8], out: &mut [u8], at: usize) -> usize
     ensures { Wrote out.old at (certain_answer line.now) result out.new }
 {
-    let paged = asked::read_paged(line);
-    if !paged.good {
+    let Some(paged) = asked::read_paged(line) else {
         return answers::bad(out, at);
-    }
+    };
     let answer = paged.run.certain(paged.page);
-    number_unless(answer.refusal, answer.certain as u64, out, at)
-}
-
-// Puts a page that is in a set behind the pages of a list, and answers how many there are.
-fn put_page(list: &mut [u16], n: usize, page: u16, is_in: bool) -> usize
-    requires { n < length list.old }
-    ensures count { result ≡ n + bit is_in }
-    ensures numbers { list.new ≡ (if is_in then set list.old n page else list.old) }
-{
-    if is_in {
-        list[n] = page;
-        return n + 1;
-    }
-    n
+    number_unless(answer.refusal, u64::from(answer.certain), out, at)
 }
 
 // The pages of a set, in rising order, at the start of a buffer; answers how many.
@@ -180,10 +137,11 @@ fn gather(pages: &[bool], list: &mut [u16]) -> usize
     ensures numbers { list.new ≡ put list.old 0 (pages_of pages.now) }
 {
     let mut n = 0;
-    let mut q: u16 = 0;
-    while q < 1024 {
-        n = put_page(list, n, q, pages[q as usize]);
-        q += 1;
+    for (q, is_in) in pages.iter().enumerate() {
+        if *is_in {
+            list[n] = q as u16;
+            n += 1;
+        }
     }
     n
 }
@@ -192,28 +150,25 @@ fn gather(pages: &[bool], list: &mut [u16]) -> usize
 pub fn selection(line: &[u8], out: &mut [u8], at: usize) -> usize
     ensures { Wrote out.old at (selection_answer line.now) result out.new }
 {
-    let described = asked::read_run(fields::word(line, 1));
-    if !described.good {
+    let Some(run) = asked::read_run(fields::word(line, 1)) else {
         return answers::bad(out, at);
-    }
-    let answer = described.run.selection();
-    if answer.refusal != 0 {
+    };
+    let answer = run.selection();
+    if answer.refusal.is_some() {
         return answers::refusal(out, at, answer.refusal);
     }
-    let pages = answer.pages;
     let mut list: [u16; 1024] = [0; 1024];
-    let n = gather(&pages, &mut list);
+    let n = gather(&answer.pages, &mut list);
     let next = fields::write_word(out, at, b"0 ");
-    fields::write_list(out, next, fields::first_numbers(&list, n))
+    fields::write_list(out, next, fields::first(&list, n))
 }
 
 // sound RECORD
 pub fn sound(line: &[u8], out: &mut [u8], at: usize) -> usize
     ensures { Wrote out.old at (sound_answer line.now) result out.new }
 {
-    let described = asked::read_run(fields::word(line, 1));
-    if !described.good {
+    let Some(run) = asked::read_run(fields::word(line, 1)) else {
         return answers::bad(out, at);
-    }
-    fields::write_number(out, at, described.run.is_sound() as u64)
+    };
+    fields::write_number(out, at, u64::from(run.is_sound()))
 }

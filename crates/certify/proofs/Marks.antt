@@ -41,12 +41,9 @@ marked_none N held marks e =
       differ = λ t u lt lu h. absurd (omega arith);
     }
 
-module _ (N : ℕ) (held : List ℕ) (marks : List Bool) (s : ℕ) (l : s < length held) (w : Marked N held marks s) where
-  abbrev page : ℕ
-  page = get_or held s 0
-
+module _ (N : ℕ) (held : List ℕ) (marks : List Bool) (s page : ℕ) (l : s < length held) (same : page ≡ get_or held s 0) (w : Marked N held marks s) where
   page_is : get_or held s no_page ≡ page
-  page_is = entry_any held s no_page 0 l
+  page_is = entry_any held s no_page 0 l ∙ sym same
 
   pub marked_more : N ≤ 1024 → page < N → get_or marks page false ≡ false → Marked N held (set marks page true) (s + 1)
   marked_more fits lp fresh =
@@ -108,10 +105,7 @@ module _ (N : ℕ) (held : List ℕ) (marks : List Bool) (s : ℕ) (l : s < leng
       again : seats_fit N k held ≡ true → (t : ℕ) × (t < s) × (get_or held t no_page ≡ page) → ⊥
       again e u = omega (arith, u.1, seats_differ N k held e u.0 s (omega (arith, u.1)) lk (u.2 ∙ sym page_is))
 
-module _ (N k : ℕ) (held : List ℕ) (marks : List Bool) (s : ℕ) (w : Marked N held marks s) (a : s ≤ k) (b : k ≤ s) where
-  done : Marked N held marks k
-  done = let e : k ≡ s = omega arith in rw e w
-
+module _ (N k : ℕ) (held : List ℕ) (marks : List Bool) (done : Marked N held marks k) where
   pub seats_all : true ≡ seats_fit N k held
   seats_all = sym (seats_in N k held done.below done.differ)
 
@@ -121,7 +115,7 @@ module _ (N k : ℕ) (held : List ℕ) (marks : List Bool) (s : ℕ) (w : Marked
       false
       marks
       (table 1024 N false (seated held k))
-      (w.size ∙ sym (table_length 1024 N false (seated held k) fits))
+      (done.size ∙ sym (table_length 1024 N false (seated held k) fits))
       (λ q l. ⊎_elim (λ h. past q h) (λ h. done.marked q ∙ sym (table_at 1024 N false (seated held k) q h)) (le_or_lt N q))
     where
       none_past : (q : ℕ) → N ≤ q → (t : ℕ) × (t < k) × (get_or held t no_page ≡ q) → ⊥

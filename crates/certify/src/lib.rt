@@ -12,23 +12,14 @@ ghost use Rattle.certify.specs.ByLayer.{Tabled};
 
 use ranking::Key;
 
-// Whether two tests were passed.
-fn both(first: bool, second: bool) -> bool
-    ensures { result ≡ (first && second) }
-{
-    if first { second } else { false }
-}
-
 // For each j, the slots hold at most j pages of layers up to j: as many as the table says.
 fn has_room(counts: &[u8; 65], slots: u8) -> bool
     requires { slots ≤ 64 }
     ensures { result ≡ each (suc slots) (λ j. slice_index_or counts.now j 0 ≤? j) }
 {
     let mut room = true;
-    let mut j: u8 = 0;
-    while j <= slots {
-        room = both(room, counts[j as usize] <= j);
-        j += 1;
+    for j in 0..slots + 1 {
+        room &= counts[usize::from(j)] <= j;
     }
     room
 }
@@ -38,12 +29,10 @@ fn bars<'a>(counts: &'a [u8; 65], lows: &'a [Key; 65], slots: u8) -> [Key; 65]
     requires { slots ≤ 64 }
     ensures { (near keys : List ℕ) → Tabled near keys slots counts.now lows.now → result ≡ table 65 (suc slots) 0 (bar_key near keys slots) }
 {
-    let k = slots as usize;
+    let k = usize::from(slots);
     let mut bars: [Key; 65] = [0; 65];
     let mut bar = lows[k];
-    let mut j = k + 1;
-    while 0 < j {
-        j -= 1;
+    for j in (0..k + 1).rev() {
         if layers::wide(counts[j]) == j {
             bar = lows[j];
         }
@@ -58,19 +47,12 @@ fn mark<'a>(marks: &'a mut [bool; 1024], held: &'a [u16; 64], pages: usize, slot
     ensures result { result ≡ seats_fit pages slots held.now }
     ensures marked { result ≡ true → marks.new ≡ table 1024 pages false (seated held.now slots) }
 {
-    // A slice knows its length: a slot below 64 is an entry of the list.
-    let entries: &[u16] = held;
-    let mut s = 0;
-    while s < slots {
-        let page = entries[s] as usize;
-        if pages <= page {
-            return false;
-        }
-        if marks[page] {
+    for entry in &held[..slots] {
+        let page = usize::from(*entry);
+        if pages <= page || marks[page] {
             return false;
         }
         marks[page] = true;
-        s += 1;
     }
     true
 }
@@ -79,13 +61,7 @@ fn mark<'a>(marks: &'a mut [bool; 1024], held: &'a [u16; 64], pages: usize, slot
 fn in_time(marked: bool, layer: u8, key: Key, bar: Key) -> bool
     ensures { result ≡ (marked || layer =? 0 || key <? bar) }
 {
-    if marked {
-        return true;
-    }
-    if layer == 0 {
-        return true;
-    }
-    key < bar
+    marked || layer == 0 || key < bar
 }
 
 // No page outside the slots has a key that reaches the bar of its layer; layer 0 has no bar. Every page is looked at:
@@ -100,41 +76,34 @@ fn none_late<'a>(
     requires { (pages ≤ 1024) × ((q : ℕ) → q < pages → slice_index_or layer.now q 0 ≤ 64) }
     ensures { result ≡ each pages (λ q. slice_index_or marks.now q false || slice_index_or layer.now q 0 =? 0 || key_at keys.now q <? slice_index_or bars.now (slice_index_or layer.now q 0) 0) }
 {
-    let mut q = 0;
     let mut all = true;
-    while q < pages {
+    for q in 0..pages {
         let l = layer[q];
-        all = both(all, in_time(marks[q], l, keys[q], bars[l as usize]));
-        q += 1;
+        all &= in_time(marks[q], l, keys[q], bars[usize::from(l)]);
     }
     all
 }
 
 // The clauses on the layers: no page above layer k, a page in each of the layers 1 to k, just one in layer k.
+#[tactic(auto, unfolding(crate::specs::Test::layers_fit))]
 fn layers_fit(layer: &[u8; 1024], pages: usize, slots: usize) -> bool
     requires { (pages ≤ 1024) × (slots ≤ 64) }
     ensures { result ≡ layers_fit pages slots layer.now }
 {
     let k = slots as u8;
-    if !layers::bounded(layer, pages, k) {
-        return false;
-    }
-    if !layers::filled(layer, pages, slots) {
-        return false;
-    }
-    layers::pages_in(layer, pages, k) == 1
+    layers::bounded(layer, pages, k)
+        && layers::filled(layer, pages, slots)
+        && layers::pages_in(layer, pages, k) == 1
 }
 
 // The clauses on the entries that no page and no slot has.
+#[tactic(auto, unfolding(crate::specs::Test::ends_clear))]
 fn ends_clear<'a>(layer: &'a [u8; 1024], held: &'a [u16; 64], pages: usize, slots: usize) -> bool
     requires limits { (pages ≤ 1024) × (slots ≤ 64) }
     requires lengths { (length layer.now ≡ 1024) × (length held.now ≡ 64) }
     ensures { result ≡ ends_clear pages slots layer.now held.now }
 {
-    if !layers::no_layer_from(layer, pages) {
-        return false;
-    }
-    layers::no_page_from(held, slots)
+    layers::only_from(layer, pages, 0) && layers::only_from(held, slots, 65535)
 }
 
 // The certificate: no page outside the slots is too late, and there is room for those in them.
@@ -152,15 +121,12 @@ fn certificate<'a>(
     ensures { result ≡ certificate pages slots layer.now (key_at keys.now) held.now }
 {
     let k = slots as u8;
-    let near = slots::nears(layer, held, slots);
-    let seat_keys = slots::keys(keys, held, slots);
+    let near = slots::by_slot(layer, held, slots, 0);
+    let seat_keys = slots::by_slot(keys, held, slots, 0);
     let counts = slots::counts(&near, k);
     let lows = slots::lows(&near, &seat_keys, k);
     let limits = bars(&counts, &lows, k);
-    if !none_late(layer, keys, marks, &limits, pages) {
-        return false;
-    }
-    has_room(&counts, k)
+    none_late(layer, keys, marks, &limits, pages) && has_room(&counts, k)
 }
 
 // The clauses of a sound run that speak of its tables of layers and slots, where `keys` stand for its ranking.
@@ -175,15 +141,9 @@ pub fn tables<'a>(
     requires lengths { (length layer.now ≡ 1024) × (length held.now ≡ 64) }
     ensures { (o : ℕ → ℕ → Bool) → Keyed pages o (key_at keys.now) → result ≡ tables_sound pages slots o layer.now held.now }
 {
-    if !layers_fit(layer, pages, slots) {
-        return false;
-    }
-    if !ends_clear(layer, held, pages, slots) {
+    if !layers_fit(layer, pages, slots) || !ends_clear(layer, held, pages, slots) {
         return false;
     }
     let mut marks = [false; 1024];
-    if !mark(&mut marks, held, pages, slots) {
-        return false;
-    }
-    certificate(layer, keys, held, &marks, pages, slots)
+    mark(&mut marks, held, pages, slots) && certificate(layer, keys, held, &marks, pages, slots)
 }

@@ -3,8 +3,10 @@
 
 ghost use Rattle.std.specs.Prelude.{◌≡◌, ◌+◌, ◌≤◌};
 ghost use Rattle.paging.specs.Sets.{◌=?◌, bit};
+ghost use Rattle.refusals.specs.Numbers.{told};
 ghost use Rattle.counts.specs.Counts.{most_served, no_counts, counts_fit, page_refusal, turned};
 
+use refusals::Refusal;
 use serve::Event;
 
 #[derive(Clone, Copy)]
@@ -53,25 +55,25 @@ pub fn fit(counts: Counts, most: u32) -> bool
     counts.best <= counts.misses
 }
 
-// The refusal of a request to a sound run, by its numbers: 8, 9, or 0.
-pub fn refusal(pages: usize, served: u32, page: usize, most: u32) -> u8
+// The refusal of a request to a sound run, by its numbers: 8 or 9.
+pub fn refusal(pages: usize, served: u32, page: usize, most: u32) -> Result<(), Refusal>
     requires { most ≡ most_served }
-    ensures { result ≡ page_refusal pages served page }
+    ensures { told result ≡ page_refusal pages served page }
 {
     if page >= pages {
-        return 8;
+        return Err(Refusal::NoSuchPage);
     }
     if most <= served {
-        return 9;
+        return Err(Refusal::AllServed);
     }
-    0
+    Ok(())
 }
 
 // 1 for a page of L_0, else 0: what its request adds to best.
 pub fn new_page(layer: u8) -> u32
     ensures { result ≡ bit (layer =? 0) }
 {
-    if layer == 0 { 1 } else { 0 }
+    u32::from(layer == 0)
 }
 
 // The counts after an event; `new` is 1 for a page of L_0.
@@ -82,28 +84,28 @@ pub fn counted(counts: Counts, event: Event, new: u32) -> Turn
     let served = counts.served + 1;
     let best = counts.best + new;
     match event {
-        Event::Hit { slot } => Turn {
-            event: Event::Hit { slot },
+        Event::Hit { .. } => Turn {
+            event,
             best,
             counts: Counts {
                 served,
                 hits: counts.hits + 1,
-                misses: counts.misses,
                 best,
+                ..counts
             },
         },
-        Event::Miss { slot, victim } => Turn {
-            event: Event::Miss { slot, victim },
+        Event::Miss { .. } => Turn {
+            event,
             best,
             counts: Counts {
                 served,
-                hits: counts.hits,
                 misses: counts.misses + 1,
                 best,
+                ..counts
             },
         },
-        Event::Refused { number } => Turn {
-            event: Event::Refused { number },
+        Event::Refused(_) => Turn {
+            event,
             best: 0,
             counts,
         },

@@ -2,11 +2,16 @@
 // accepted call prints 0, and what it wrote as a sum over the buffer, so that a byte too many shows.
 #![tactic(auto)]
 
-use run::{Reading, Run};
+use refusals::Refusal;
+use run::Run;
 use std::io;
 
 fn number(rt: &impl Print, n: u64) -> io::Result<()> {
     print!(rt; "{n} ")
+}
+
+fn refusal(rt: &impl Print, refusal: Option<Refusal>) -> io::Result<()> {
+    print!(rt; "{} ", refusals::number_in(refusal))
 }
 
 fn end_line(rt: &impl Print) -> io::Result<()> {
@@ -37,17 +42,11 @@ fn number_in(b: [u8; 80], at: usize) -> u32 {
 }
 
 fn image_number(rt: &impl Print, b: &[u8]) -> io::Result<()> {
-    let restored = Run::blank().restore(b);
-    let event = restored.event;
-    match event {
-        Reading::Accepted => number(rt, 0),
-        Reading::Refused { number: n } => number(rt, n as u64),
-    }
+    refusal(rt, Run::blank().restore(b).event.err())
 }
 
 fn trace_number(rt: &impl Print, b: &[u8]) -> io::Result<()> {
-    let traced = trace::read(b);
-    number(rt, traced.refusal as u64)
+    refusal(rt, trace::read(b).refusal)
 }
 
 // What a reader says of the first n bytes of b, as an image or as a trace.
@@ -172,7 +171,7 @@ fn images(rt: &impl Print, run: Run) -> io::Result<()> {
     let mut b = [7u8; 80];
     let stored = run.store(&mut b);
     number(rt, stored.length as u64)?;
-    number(rt, stored.refusal as u64)?;
+    refusal(rt, stored.refusal)?;
     number(rt, sum(&b))?;
     end_line(rt)?;
     lengths(rt, b, 36, 60, true)?;
@@ -186,7 +185,7 @@ fn store_refusals(rt: &impl Print, run: Run) -> io::Result<()> {
     let mut short = [7u8; 59];
     let stored = run.store(&mut short);
     number(rt, stored.length as u64)?;
-    number(rt, stored.refusal as u64)?;
+    refusal(rt, stored.refusal)?;
     number(rt, sum(&short))?;
     let mut odd = run;
     let mut ranks = odd.ranks;
@@ -194,16 +193,16 @@ fn store_refusals(rt: &impl Print, run: Run) -> io::Result<()> {
     odd.ranks = ranks;
     let mut b = [7u8; 80];
     let unsound = odd.store(&mut b);
-    number(rt, unsound.refusal as u64)?;
+    refusal(rt, unsound.refusal)?;
     ranks.priority[6] = 0;
     odd.ranks = ranks;
     odd.held[3] = 5;
     let filled = odd.store(&mut b);
-    number(rt, filled.refusal as u64)?;
+    refusal(rt, filled.refusal)?;
     odd.held[3] = 65535;
     odd.layer[1000] = 1;
     let placed = odd.store(&mut b);
-    number(rt, placed.refusal as u64)?;
+    refusal(rt, placed.refusal)?;
     number(rt, sum(&b))?;
     end_line(rt)
 }
@@ -219,7 +218,7 @@ fn written<'a>(
     let mut b = [7u8; 80];
     let w = trace::write(pages, slots, list, priorities, requests, &mut b);
     number(rt, w.length as u64)?;
-    number(rt, w.refusal as u64)?;
+    refusal(rt, w.refusal)?;
     number(rt, sum(&b))
 }
 
@@ -238,7 +237,7 @@ fn traces(rt: &impl Print) -> io::Result<()> {
     end_line(rt)?;
     let mut b = [7u8; 80];
     let w = trace::write(6, 3, &list, &priorities, &requests, &mut b);
-    number(rt, w.refusal as u64)?;
+    refusal(rt, w.refusal)?;
     lengths(rt, b, 24, 54, false)?;
     header_by_one(rt, b, 6, 54, false)?;
     extremes(rt, b, 6, 54, false)?;
@@ -251,8 +250,7 @@ fn traces(rt: &impl Print) -> io::Result<()> {
 }
 
 fn filled(rt: &impl Print, run: Run, page: usize, area: &mut [u8], bytes: &[u8]) -> io::Result<()> {
-    let n = frames::fill(run, page, area, bytes);
-    number(rt, n as u64)?;
+    refusal(rt, frames::fill(run, page, area, bytes).err())?;
     number(rt, sum(area))
 }
 
@@ -273,7 +271,7 @@ fn frames_of(rt: &impl Print, run: Run) -> io::Result<()> {
 }
 
 fn looked(rt: &impl Print, run: Run, page: usize, area: &[u8]) -> io::Result<()> {
-    number(rt, frames::look_refusal(run, page, area) as u64)?;
+    refusal(rt, frames::look_refusal(run, page, area).err())?;
     number(rt, sum(frames::look(run, page, area)))
 }
 

@@ -8,18 +8,18 @@ use native.Mathlib.Numerals.{add-one}
 use native.Mathlib.Omega.{arith}
 use borrow.Author.Tests.{le-leb, lt-leb, eq-eqb, ne_eqb}
 use lib.ListN.{length, get_or, set, take, drop, length-set, length-drop, drop_of_length-le}
-use lib.Seq.{drop-cons, drop-drop, take-nil}
+use lib.Seq.{take_all, drop-cons, drop-drop, take-nil}
+use Rattle.std.specs.Prelude.{Option, Some, None, unwrap_or}
+use Rattle.std.specs.Prelude.{Result}
+use Rattle.std.specs.Result.{OkIff, result_ok}
+use Rattle.std.proofs.lemmas.Result.{Ok-from_Ok_iff}
 use Rattle.paging.specs.Sets.{◌=?◌, ◌≤?◌}
 use Rattle.paging.specs.Tests.{le_or_lt}
 use Rattle.words.specs.Words.{put}
 use Rattle.words.specs.Laws.{put_none}
 use Rattle.text.specs.Text.{decimal}
-use Rattle.hexadecimal.specs.declared.Count.{Count}
-use Rattle.hexadecimal.specs.declared.Count.TheVariants.{Of, Refused}
 use Rattle.hexadecimal.specs.Room.{Wrote}
 use Rattle.hexadecimal.specs.Laws.{none_wrote, wrote_then, wrote_as}
-use Rattle.fields.specs.declared.Value.{Value}
-use Rattle.fields.specs.declared.Value.TheVariants as value
 use Rattle.fields.specs.Fields.{before, number_of, none_word, in_front, parts, number_then, numbers_of, list_in, count_of, list_after, more_texts, list_texts}
 use Rattle.fields.specs.Laws.{put_more}
 use Rattle.fields.proofs.Steps.{and_fails}
@@ -70,9 +70,6 @@ part_some x w = rw (part_first x w) (omega arith)
 abbrev gap : ℕ → List ℕ → ℕ
 gap = before
 
-abbrev Refusal : Value
-Refusal = value.Refused
-
 -- Before part n, which begins at an offset: what is left, read behind what is there, makes the whole.
 pub record Reading (word entry : List ℕ) (out : List ℕ) (n from : ℕ) : Type 0 where
   pub room : n ≤ length entry
@@ -87,11 +84,20 @@ reading_first word entry =
     let none_less : length entry - 0 ≡ length entry = omega arith in
     record { room = omega arith; reached = omega arith; size = refl; goods = omega arith; all = omega arith; numbers = rw none_less }
 
+-- a number that is no larger than the largest entry becomes one
+pub entry_of : {E : Type 0} {x : ℕ} (r : Result ℕ E) {o : Option ℕ} → x ≤ 65535 → OkIff r (x < 65536) x → o ≡ result_ok r → o ≡ Some x
+entry_of {x} r l f e = e ∙ rw (Ok-from_Ok_iff r (x < 65536) x f (omega arith))
+
+pub entry_is : {E : Type 0} {x y : ℕ} (r : Result ℕ E) {o : Option ℕ} → x ≤ 65535 → OkIff r (x < 65536) x → o ≡ result_ok r → o ≡ Some y → y ≡ x
+entry_is {x} {y} r l f e g =
+    let same : Some y ≡ Some x = sym g ∙ entry_of r l f e in
+    ap (λ o. unwrap_or o 0) same
+
 -- what a list read, or refused, leaves
-abbrev pub Done : List ℕ → List ℕ → Count → List ℕ → Type 0
+abbrev pub Done : List ℕ → List ℕ → Option ℕ → List ℕ → Type 0
 Done word s r last = (r ≡ count_of (list_in (length s) word)) × (last ≡ list_after word s)
 
-pub no_numbers : (word s : List ℕ) → none_word word ≡ true → Done word s (Of 0) s
+pub no_numbers : (word s : List ℕ) → none_word word ≡ true → Done word s (Some 0) s
 unfolding list_in count_of list_after
 no_numbers word s e = (rw e, rw e)
 
@@ -106,15 +112,15 @@ module _ (word s : List ℕ) (some_is : none_word word ≡ false) where
   unfolding list_after
   after_is = rw some_is
 
-  fewer_refused : length good < length words → Refused ≡ count_of (list_in (length s) word)
+  fewer_refused : length good < length words → None ≡ count_of (list_in (length s) word)
   unfolding list_in count_of
   fewer_refused l = rw (some_is, ne_eqb (length good) (length words) (λ e. omega arith))
 
-  more_refused : length s < length words → Refused ≡ count_of (list_in (length s) word)
+  more_refused : length s < length words → None ≡ count_of (list_in (length s) word)
   unfolding list_in count_of
   more_refused l = rw (some_is, and_fails (length good =? length words) (length words ≤? length s) (lt-leb _ _ l))
 
-  all_counted : length good ≡ length words → length words ≤ length s → Of (length good) ≡ count_of (list_in (length s) word)
+  all_counted : length good ≡ length words → length words ≤ length s → Some (length good) ≡ count_of (list_in (length s) word)
   unfolding list_in count_of
   all_counted e l = rw (some_is, eq-eqb (length good) (length words) e, le-leb _ _ l)
 
@@ -123,7 +129,7 @@ module _ (word entry out : List ℕ) (n from : ℕ) (now_is : Reading word entry
   rest = drop from word
 
   -- the loop has filled the buffer, and there is one part more
-  pub reading_full : length entry ≤ n → Done word entry Refused out
+  pub reading_full : length entry ≤ n → Done word entry None out
   reading_full l =
       let none_left : length entry - n ≡ 0 = omega arith in (
         more_refused word entry some_is (omega (arith, now_is.all, part_some 44 rest)),
@@ -139,16 +145,16 @@ module _ (word entry out : List ℕ) (n from : ℕ) (now_is : Reading word entry
     numbers_first = rw (part_is, part_first 44 rest)
 
     -- a part that is no number
-    pub reading_bad : Refusal ≡ number_of 65535 (take (end - from) rest) → Done word entry Refused out
+    pub reading_bad : None ≡ number_of 65535 (take (end - from) rest) → Done word entry None out
     unfolding number_then
     reading_bad e =
-        let none : numbers_of (parts 44 rest) ≡ [] = numbers_first ∙ rw (← e) in
-        let goods = rw none at now_is.goods in (
+        let stop : numbers_of (parts 44 rest) ≡ [] = numbers_first ∙ rw (← e) in
+        let goods = rw stop at now_is.goods in (
           fewer_refused word entry some_is (omega (arith, goods, now_is.all, part_some 44 rest)),
-          sym (put_none out n) ∙ (rw (none, take-nil (length entry - n)) at now_is.numbers) ∙ sym (after_is word entry some_is),
+          sym (put_none out n) ∙ (rw (stop, take-nil (length entry - n)) at now_is.numbers) ∙ sym (after_is word entry some_is),
         )
 
-    module _ (x : ℕ) (x_is : value.Is x ≡ number_of 65535 (take (end - from) rest)) (fits : n < length entry) where
+    module _ (x : ℕ) (x_is : Some x ≡ number_of 65535 (take (end - from) rest)) (fits : n < length entry) where
       numbers_one : numbers_of (parts 44 rest) ≡ x ∷ numbers_of (drop 1 (parts 44 rest))
       unfolding number_then
       numbers_one = numbers_first ∙ rw (← x_is)
@@ -161,13 +167,13 @@ module _ (word entry out : List ℕ) (n from : ℕ) (now_is : Reading word entry
           ∙ (rw (numbers_one, less) at now_is.numbers)
 
       -- the last part
-      pub reading_last : length word ≤ end → Done word entry (Of (n + 1)) (set out n x)
+      pub reading_last : length word ≤ end → Done word entry (Some (n + 1)) (set out n x)
       unfolding numbers_of
       reading_last l =
           let tail : drop 1 (parts 44 rest) ≡ [] = rw (part_last 44 rest (rw length-drop (omega (arith, now_is.reached)))) in
           let goods : length (numbers_of (parts 44 word)) ≡ n + 1 = last_goods tail in
           let all : length (parts 44 word) ≡ n + 1 = last_all tail in (
-            ap Of (sym goods) ∙ all_counted word entry some_is (goods ∙ sym all) (omega (arith, all)),
+            ap Some (sym goods) ∙ all_counted word entry some_is (goods ∙ sym all) (omega (arith, all)),
             last_numbers tail ∙ sym (after_is word entry some_is),
           )
         where
@@ -212,10 +218,10 @@ module _ (list : List ℕ) where
   -- Before number i: what is left, written behind what is there, makes the whole.
   pub record Listing (before : List ℕ) (at : ℕ) (out : List ℕ) (next i : ℕ) : Type 0 where
     pub size : length out ≡ length before
-    pub whole : (r : ℕ) (last : List ℕ) → Wrote out next (more_texts (drop i list)) r last → Wrote before at (more_texts (drop 1 list)) r last
+    pub whole : (r : ℕ) (last : List ℕ) → Wrote out next (more_texts (drop i list)) r last → Wrote before at (more_texts list) r last
 
   module _ (before : List ℕ) (at : ℕ) where
-    pub listing_first : Listing before at before at 1
+    pub listing_first : Listing before at before at 0
     listing_first = record { size = refl; whole = λ r last p. p }
 
     module _ (out : List ℕ) (next i : ℕ) (now_is : Listing before at out next i) where
@@ -232,14 +238,14 @@ module _ (list : List ℕ) where
             whole = λ r last rest. now_is.whole r last (wrote_as (more_next i l) (wrote_then (wrote_then comma number) rest));
           }
 
-      pub listing_last : length list ≤ i → Wrote before at (more_texts (drop 1 list)) next out
+      pub listing_last : length list ≤ i → Wrote before at (more_texts list) next out
       listing_last l = now_is.whole next out (wrote_as (more_last i l) none_wrote)
 
 -- the first number, and those behind it
-pub list_some : (list : List ℕ) → 0 < length list → list_texts list ≡ decimal (get_or list 0 0) ∷ more_texts (drop 1 list)
+pub list_some : (list : List ℕ) → 1 ≤ length list → list_texts list ≡ decimal (get_or list 0 0) ∷ more_texts (take (length list - 1) (drop 1 list))
 unfolding list_texts
 list_some [] l = absurd (omega arith)
-list_some (n ∷ ns) l = refl
+list_some (n ∷ ns) l = rw (take_all (length (n ∷ ns) - 1) ns (omega arith))
 
 pub list_none : (list : List ℕ) → length list ≡ 0 → list_texts list ≡ (45 ∷ []) ∷ []
 unfolding list_texts

@@ -1,8 +1,7 @@
 -- What was read of a word, as a caller sees it: how many bytes or numbers, and that they are the first of the buffer; and
 -- whether two texts are the same. Assumes nothing.
-use Rattle.std.specs.Prelude.{Bool, ◌&&◌, List, [], ◌∷◌, ◌≡◌, refl, ℕ, ◌+◌, ◌-◌, ◌*◌, ◌/◌, ◌%◌, ◌≤◌, take, drop}
+use Rattle.std.specs.Prelude.{Bool, ◌&&◌, List, [], ◌∷◌, ◌≡◌, refl, ℕ, ◌+◌, ◌-◌, ◌*◌, ◌/◌, ◌%◌, ◌≤◌, take, drop, Option, Some, None}
 use Rattle.std.proofs.Math.Bool.{true, false}
-use Rattle.std.proofs.Math.Option.{Option, none, some}
 use Rattle.std.proofs.Common.{sym, ap, ◌∙◌}
 use native.Mathlib.Omega.{arith}
 use borrow.Author.Tests.{eqb-true, eq-eqb, leb-true}
@@ -12,8 +11,6 @@ use Rattle.paging.specs.Sets.{◌=?◌, ◌≤?◌}
 use Rattle.paging.specs.Tests.{clash, and_left, and_right}
 use Rattle.words.specs.Words.{put}
 use Rattle.words.specs.Laws.{take_put}
-use Rattle.hexadecimal.specs.declared.Count.{Count}
-use Rattle.hexadecimal.specs.declared.Count.TheVariants.{Of, Refused}
 use Rattle.hexadecimal.specs.Hex.{all_digits, bytes_of, readable, count_read, bytes_read}
 use Rattle.hexadecimal.specs.Laws.{bytes_length}
 use Rattle.fields.specs.Fields.{none_word, bytes_count, bytes_after, bytes_in, parts, numbers_of, list_in, count_of, list_after, same_text}
@@ -39,7 +36,7 @@ module _ (w s : List ℕ) where
       let even : length w ≡ 2 * (length w / 2) = omega (arith, eqb-true (length w % 2) 0 pairs) in
       let size : length (bytes_of w) ≡ length w / 2 = bytes_length (length w / 2) w even in
       let small : length w / 2 ≤ length s = leb-true (length w / 2) (length s) fits in
-      rw (none_is, empty_is, e) (ap some (sym (first_put s (bytes_of w) {n = length w / 2} (omega (arith, size, small)) (omega (arith, size), refl) refl)), small)
+      rw (none_is, empty_is, e) (ap Some (sym (first_put s (bytes_of w) {n = length w / 2} (omega (arith, size, small)) (omega (arith, size), refl) refl)), small)
   bytes_readable false e none_is empty_is = rw (none_is, empty_is, e)
 
   no_bytes : none_word w ≡ true → Read (bytes_in (length s) w) s (bytes_after w s) (bytes_count w s)
@@ -74,7 +71,7 @@ module _ (w s : List ℕ) where
       let same : length (numbers_of (parts 44 w)) ≡ length (parts 44 w) = eqb-true _ _ (and_left (length (numbers_of (parts 44 w)) =? length (parts 44 w)) (length (parts 44 w) ≤? length s) e) in
       let fits : length (parts 44 w) ≤ length s = leb-true _ _ (and_right (length (numbers_of (parts 44 w)) =? length (parts 44 w)) (length (parts 44 w) ≤? length s) e) in
       let small : length (numbers_of (parts 44 w)) ≤ length s = omega (arith, same, fits) in
-      rw (none_is, e, take_all (length s) (numbers_of (parts 44 w)) small) (ap some (sym (first_put s (numbers_of (parts 44 w)) {n = length (numbers_of (parts 44 w))} small (omega arith, refl) refl)), small)
+      rw (none_is, e, take_all (length s) (numbers_of (parts 44 w)) small) (ap Some (sym (first_put s (numbers_of (parts 44 w)) {n = length (numbers_of (parts 44 w))} small (omega arith, refl) refl)), small)
   numbers false e none_is = rw (none_is, e)
 
   list_told : Read (list_in (length s) w) s (list_after w s) (count_of (list_in (length s) w))
@@ -86,37 +83,37 @@ module _ (w s : List ℕ) where
 
 -- ---- what a caller knows after a call that answered so many, or a refusal
 
-module _ (o : Option (List ℕ)) (s last : List ℕ) (r : Count) (read : Read o s last r) where
-  read_some : (n : ℕ) → r ≡ Of n → (o ≡ some (take n last)) × (n ≤ length s)
+module _ (o : Option (List ℕ)) (s last : List ℕ) (r : Option ℕ) (read : Read o s last r) where
+  read_some : (n : ℕ) → r ≡ Some n → (o ≡ Some (take n last)) × (n ≤ length s)
   unfolding Read
   read_some n e = rw e at read
 
-  read_none : r ≡ Refused → o ≡ none
+  read_none : r ≡ None → o ≡ None
   unfolding Read
   read_none e = rw e at read
 
-module _ (w s : List ℕ) {most : ℕ} {last : List ℕ} {r : Count} (size : length s ≡ most) where
+module _ (w s : List ℕ) {most : ℕ} {last : List ℕ} {r : Option ℕ} (size : length s ≡ most) where
   module _ (p : (r ≡ bytes_count w s) × (last ≡ bytes_after w s)) where
     bytes_read_is : Read (bytes_in most w) s last r
     bytes_read_is = rw (p.0, p.1, ← size) (bytes_told w s)
 
-    pub some_bytes : {n : ℕ} {x : List ℕ} → r ≡ Of n → x ≡ take n last → bytes_in most w ≡ some x
-    some_bytes {n} e f = (read_some (bytes_in most w) s last r bytes_read_is n e).0 ∙ ap some (sym f)
+    pub some_bytes : {n : ℕ} {x : List ℕ} → r ≡ Some n → x ≡ take n last → bytes_in most w ≡ Some x
+    some_bytes {n} e f = (read_some (bytes_in most w) s last r bytes_read_is n e).0 ∙ ap Some (sym f)
 
-    pub bytes_few : {n : ℕ} → r ≡ Of n → n ≤ most
+    pub bytes_few : {n : ℕ} → r ≡ Some n → n ≤ most
     bytes_few {n} e = rw size at (read_some (bytes_in most w) s last r bytes_read_is n e).1
 
-    pub no_bytes_in : r ≡ Refused → bytes_in most w ≡ none
+    pub no_bytes_in : r ≡ None → bytes_in most w ≡ None
     no_bytes_in e = read_none (bytes_in most w) s last r bytes_read_is e
 
   module _ (p : (r ≡ count_of (list_in (length s) w)) × (last ≡ list_after w s)) where
     list_read_is : Read (list_in most w) s last r
     list_read_is = rw (p.0, p.1, ← size) (list_told w s)
 
-    pub some_numbers : {n : ℕ} {x : List ℕ} → r ≡ Of n → x ≡ take n last → list_in most w ≡ some x
-    some_numbers {n} e f = (read_some (list_in most w) s last r list_read_is n e).0 ∙ ap some (sym f)
+    pub some_numbers : {n : ℕ} {x : List ℕ} → r ≡ Some n → x ≡ take n last → list_in most w ≡ Some x
+    some_numbers {n} e f = (read_some (list_in most w) s last r list_read_is n e).0 ∙ ap Some (sym f)
 
-    pub no_numbers_in : r ≡ Refused → list_in most w ≡ none
+    pub no_numbers_in : r ≡ None → list_in most w ≡ None
     no_numbers_in e = read_none (list_in most w) s last r list_read_is e
 
 -- ---- two texts

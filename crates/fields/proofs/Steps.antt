@@ -5,47 +5,66 @@ use mathlib.Core.Path.{◌≡◌, refl, sym, ap, ◌∙◌}
 use Prim.Native.Nat.{ℕ, zero, suc, ◌+◌, ◌-◌, ◌*◌, ◌≤◌, ◌<◌}
 use native.Mathlib.Numerals.{add-one}
 use native.Mathlib.Omega.{arith}
-use borrow.Author.Tests.{le-leb, lt-leb, eq-eqb, ne_eqb}
-use lib.ListN.{length, get_or, set, take, drop, drop_of_length-le}
-use lib.Seq.{drop-cons, drop-drop, length-take-le, take_all, take-suc}
-use Rattle.paging.specs.Sets.{◌≤?◌, ◌=?◌}
+use borrow.Author.Tests.{ltb-false, leb-true, eqb-true, le-leb, lt-leb, eq-eqb, ne_eqb}
+use lib.ListN.{length, get_or, take, drop, drop_of_length-le}
+use lib.Seq.{drop-cons, drop-drop}
+use borrow.Rule.Slice.PartMut.{put_mid}
+use Rattle.std.specs.Prelude.{Option, Some, None, count_by, cond, nat_lt, position, unwrap_or}
+use Rattle.std.specs.List.{position_or_len}
+use Rattle.std.proofs.lemmas.List.Sums.{prefix_len-le-length}
+use Rattle.std.proofs.lemmas.Option.{none-some}
+use Rattle.std.proofs.lemmas.List.Recursion.{is_count_by, is_position_or_len}
+use Rattle.paging.specs.Sets.{◌≤?◌, ◌=?◌, bit}
+use Rattle.paging.specs.Tests.{clash, and_left, and_right}
 use Rattle.words.specs.Words.{put}
-use Rattle.words.specs.Laws.{put_then}
 use Rattle.text.specs.Laws.{value_of}
-use Rattle.hexadecimal.specs.declared.Count.{Count}
-use Rattle.hexadecimal.specs.declared.Count.TheVariants.{Of}
-use Rattle.hexadecimal.specs.declared.Count.TheVariants as counts
 use Rattle.hexadecimal.specs.Hex.{digits, count_read, bytes_read}
-use Rattle.hexadecimal.specs.Laws.{set_put}
-use Rattle.fields.specs.declared.Value.TheVariants.{Is, Refused}
-use Rattle.fields.specs.Fields.{before, word_of, separators, all_decimal, number_from, number_of, none_word, bytes_count, bytes_after, bytes_word}
+use Rattle.fields.specs.Fields.{before, word_of, separators, decimal_value, all_decimal, number_from, number_of, none_word, bytes_count, bytes_after, bytes_word}
 
--- ---- the loops that look for a separator, and count them
+-- ---- what stands before a separator, and how many there are, as the library counts them
 
-module _ (x : ℕ) (w : List ℕ) (i : ℕ) where
-  pub before_here : i < length w → get_or w i 0 ≡ x → before x (drop i w) ≡ 0
+module _ (x : ℕ) where
+  before_more : (c : ℕ) (cs : List ℕ) → before x (c ∷ cs) ≡ cond (c =? x) 0 (1 + before x cs)
   unfolding before
-  before_here l e = rw (drop-cons w i 0 l, eq-eqb _ _ e)
+  before_more c cs = go (c =? x) refl
+    where
+      go : (t : Bool) → c =? x ≡ t → before x (c ∷ cs) ≡ cond (c =? x) 0 (1 + before x cs)
+      go true e = rw e
+      go false e = rw e (omega arith)
 
-  pub before_more : i < length w → (get_or w i 0 ≡ x → ⊥) → before x (drop i w) ≡ suc (before x (drop (i + 1) w))
+  first_is : (w : List ℕ) → before x w ≡ position_or_len (λ c. c =? x) w
   unfolding before
-  before_more l n = rw (add-one i, drop-cons w i 0 l, ne_eqb _ _ n)
+  first_is = is_position_or_len (before x) (λ c. c =? x) refl before_more
 
-  pub before_end : length w ≤ i → before x (drop i w) ≡ 0
+  -- the first place, or the length, is what `before` counts
+  pub before_is : (w : List ℕ) → unwrap_or (position (λ c. c =? x) w) (length w) ≡ before x w
+  before_is w = go (nat_lt (position_or_len (λ c. c =? x) w) (length w)) refl ∙ sym (first_is w)
+    where
+      within : position_or_len (λ c. c =? x) w ≤ length w
+      within = prefix_len-le-length _ w
+
+      go :
+          (t : Bool) →
+          nat_lt (position_or_len (λ c. c =? x) w) (length w) ≡ t →
+          unwrap_or (position (λ c. c =? x) w) (length w) ≡ position_or_len (λ c. c =? x) w
+      go true e = rw e
+      go false e = rw e (omega (arith, within, ltb-false (position_or_len (λ c. c =? x) w) (length w) e))
+
+  pub before_end : (w : List ℕ) (i : ℕ) → length w ≤ i → before x (drop i w) ≡ 0
   unfolding before
-  before_end l = rw (drop_of_length-le w {i = i} l)
+  before_end w i l = rw (drop_of_length-le w {i = i} l)
 
-  pub one_here : i < length w → get_or w i 0 ≡ x → separators x (drop i w) ≡ suc (separators x (drop (i + 1) w))
+  one_more : (c : ℕ) (cs : List ℕ) → separators x (c ∷ cs) ≡ cond (c =? x) (1 + separators x cs) (separators x cs)
   unfolding separators
-  one_here l e = rw (add-one i, drop-cons w i 0 l, eq-eqb _ _ e) (omega arith)
+  one_more c cs = go (c =? x) refl
+    where
+      go : (t : Bool) → c =? x ≡ t → bit (c =? x) + separators x cs ≡ cond (c =? x) (1 + separators x cs) (separators x cs)
+      go true e = rw e
+      go false e = rw e (omega arith)
 
-  pub none_here : i < length w → (get_or w i 0 ≡ x → ⊥) → separators x (drop i w) ≡ separators x (drop (i + 1) w)
+  pub separators_is : (w : List ℕ) → separators x w ≡ count_by (λ c. c =? x) w
   unfolding separators
-  none_here l n = rw (add-one i, drop-cons w i 0 l, ne_eqb _ _ n) (omega arith)
-
-  pub none_left : length w ≤ i → separators x (drop i w) ≡ 0
-  unfolding separators
-  none_left l = rw (drop_of_length-le w {i = i} l)
+  separators_is = is_count_by (separators x) (λ c. c =? x) refl one_more
 
 -- ---- the loop that passes over words
 
@@ -82,11 +101,6 @@ module _ (line : List ℕ) (from end : ℕ) (e : end ≡ from + before 32 (drop 
       ∙ word_none 0
       ∙ sym (word_later n ∙ ap (word_of n) (drop_of_length-le line {i = end + 1} past) ∙ word_none n)
 
--- ---- the first entries of a slice
-
-pub first_all : (l : List ℕ) (n : ℕ) → length l < n → l ≡ take n l
-first_all l n h = sym (take_all n l (omega arith))
-
 -- ---- the loop that reads a number
 
 value_grows : (n : ℕ) (cs : List ℕ) → n ≤ value_of n cs
@@ -94,29 +108,80 @@ unfolding value_of
 value_grows n [] = omega arith
 value_grows n (c ∷ cs) = omega (arith, value_grows (n * 10 + (c - 48)) cs)
 
-pub number_none : (most : ℕ) (w : List ℕ) → length w ≡ 0 → number_of most w ≡ Refused
+pub number_none : (most : ℕ) (w : List ℕ) → length w ≡ 0 → number_of most w ≡ None
 unfolding number_of
 number_none most [] e = refl
 number_none most (c ∷ cs) e = absurd (omega arith)
 
-module _ (most n : ℕ) (w : List ℕ) (i : ℕ) where
-  pub char_low : i < length w → get_or w i 0 < 48 → number_from most n (drop i w) ≡ Refused
-  unfolding number_from all_decimal
-  char_low l h = rw (drop-cons w i 0 l, lt-leb _ _ h)
+-- the value of a character
 
-  pub char_high : i < length w → 48 ≤ get_or w i 0 → 57 < get_or w i 0 → number_from most n (drop i w) ≡ Refused
+and_regroup : (a b d : Bool) → ((a && b) && d) ≡ (a && b && d)
+and_regroup true b d = refl
+and_regroup false b d = refl
+
+abbrev is_decimal : ℕ → Bool
+is_decimal c = 48 ≤? c && c ≤? 57
+
+module _ (c : ℕ) where
+  pub value_here : {d : ℕ} → 48 ≤ c → c ≤ 57 → d ≡ c - 48 → Some d ≡ decimal_value c
+  unfolding decimal_value
+  value_here l h e = rw (e, le-leb _ _ l, le-leb _ _ h)
+
+  pub value_low : c < 48 → None ≡ decimal_value c
+  unfolding decimal_value
+  value_low l = rw (lt-leb _ _ l)
+
+  pub value_high : 57 < c → None ≡ decimal_value c
+  unfolding decimal_value
+  value_high g =
+      let from : 48 ≤ c = omega arith in
+      rw (le-leb _ _ from, lt-leb _ _ g)
+
+  value_some : {d : ℕ} → Some d ≡ decimal_value c → (is_decimal c ≡ true) × (d ≡ c - 48)
+  unfolding decimal_value
+  value_some {d} e = go (is_decimal c) refl e
+    where
+      go : (t : Bool) → is_decimal c ≡ t → Some d ≡ decimal_value c → (is_decimal c ≡ true) × (d ≡ c - 48)
+      go true t f =
+          let same : Some d ≡ Some (c - 48) = f ∙ rw t in
+          (t, ap (λ o. unwrap_or o 0) same)
+      go false t f = absurd (none-some d (sym (f ∙ rw t)))
+
+  value_none : None ≡ decimal_value c → is_decimal c ≡ false
+  unfolding decimal_value
+  value_none e = go (is_decimal c) refl e
+    where
+      go : (t : Bool) → is_decimal c ≡ t → None ≡ decimal_value c → is_decimal c ≡ false
+      go true t f = absurd (none-some (c - 48) (f ∙ rw t))
+      go false t f = t
+
+  pub value_most : {d : ℕ} → Some d ≡ decimal_value c → d ≤ 9
+  value_most e =
+      let all = value_some e in
+      let high : c ≤ 57 = leb-true _ _ (and_right (48 ≤? c) (c ≤? 57) all.0) in
+      omega (arith, all.1, high)
+
+module _ (most n : ℕ) (w : List ℕ) (i : ℕ) where
+  pub digit_wrong : i < length w → None ≡ decimal_value (get_or w i 0) → number_from most n (drop i w) ≡ None
   unfolding number_from all_decimal
-  char_high l g h = rw (drop-cons w i 0 l, le-leb _ _ g, lt-leb _ _ h)
+  digit_wrong l e = rw (drop-cons w i 0 l, wrong (get_or w i 0) (all_decimal (drop (suc i) w)) (value_none (get_or w i 0) e))
+    where
+      wrong : (c : ℕ) (b : Bool) → is_decimal c ≡ false → (48 ≤? c && c ≤? 57 && b) ≡ false
+      wrong c b e = sym (and_regroup (48 ≤? c) (c ≤? 57) b) ∙ rw e
 
   pub digit_more :
+      {d : ℕ} →
       i < length w →
-      48 ≤ get_or w i 0 →
-      get_or w i 0 ≤ 57 →
-      number_from most n (drop i w) ≡ number_from most (n * 10 + (get_or w i 0 - 48)) (drop (i + 1) w)
+      Some d ≡ decimal_value (get_or w i 0) →
+      number_from most n (drop i w) ≡ number_from most (n * 10 + d) (drop (i + 1) w)
   unfolding number_from all_decimal value_of
-  digit_more l g h = rw (add-one i, drop-cons w i 0 l, le-leb _ _ g, le-leb _ _ h)
+  digit_more l e =
+      let all = value_some (get_or w i 0) e in
+      let from = and_left (48 ≤? get_or w i 0) (get_or w i 0 ≤? 57) all.0 in
+      let to = and_right (48 ≤? get_or w i 0) (get_or w i 0 ≤? 57) all.0 in
+      rw (add-one i, drop-cons w i 0 l, from, to, all.1)
 
-  pub number_end : length w ≤ i → n ≤ most → number_from most n (drop i w) ≡ Is n
+  pub number_end : length w ≤ i → n ≤ most → number_from most n (drop i w) ≡ Some n
   unfolding number_from all_decimal value_of
   number_end l h = rw (drop_of_length-le w {i = i} l, le-leb _ _ h)
 
@@ -124,59 +189,59 @@ pub and_fails : (a b : Bool) → b ≡ false → (a && b) ≡ false
 and_fails true b e = e
 and_fails false b e = refl
 
-pub number_large : (most n : ℕ) (cs : List ℕ) → most < n → number_from most n cs ≡ Refused
+pub number_large : (most n : ℕ) (cs : List ℕ) → most < n → number_from most n cs ≡ None
 unfolding number_from
 number_large most n cs h =
     let more : most < value_of n cs = omega (arith, value_grows n cs) in
     rw (and_fails (all_decimal cs) (value_of n cs ≤? most) (lt-leb (value_of n cs) most more))
 
--- ---- the loop that copies a word
+-- ---- a word copied to its place, as the library has it
 
-module _ (s : List ℕ) (at : ℕ) (word : List ℕ) where
-  pub copy_more :
-      (i : ℕ) (t : List ℕ) →
-      i < length word →
-      at + i < length s →
-      length t ≡ length s →
-      t ≡ put s at (take i word) →
-      set t (at + i) (get_or word i 0) ≡ put s at (take (i + 1) word)
-  copy_more i t l h e p =
-      let size : length (take i word) ≡ i = length-take-le i word (omega arith) in
-      let d : ℕ = get_or word i 0 in
-      put_then s t (set t (at + i) d) at (at + i) (take i word) (d ∷ []) p (set_put t (at + i) d (omega arith)) (omega arith) (omega arith)
-      ∙ ap (put s at) (rw (add-one i) (sym (take-suc word i 0 l)))
-
-  pub copy_all : (i : ℕ) (t : List ℕ) → length word ≤ i → t ≡ put s at (take i word) → t ≡ put s at word
-  copy_all i t l p = p ∙ rw (take_all i word l)
+pub copied : (s : List ℕ) (at : ℕ) (word last : List ℕ) → last ≡ word → put_mid at (at + length word - at) s last ≡ put s at word
+unfolding put
+copied s at word last e =
+    let size : at + length word - at ≡ length word = omega arith in
+    rw (e, size, drop-drop)
 
 -- ---- bytes, or none
 
 module _ (w : List ℕ) where
-  pub none_longer : (length w ≡ 1 → ⊥) → none_word w ≡ false
+  pub none_longer : (length w ≡ 1 → ⊥) → false ≡ none_word w
   unfolding none_word
   none_longer n = rw (ne_eqb (length w) 1 n)
 
-  pub none_one : length w ≡ 1 → none_word w ≡ get_or w 0 0 =? 45
+  pub one_dash : length w ≡ 1 → get_or w 0 0 ≡ 45 → true ≡ none_word w
   unfolding none_word
-  none_one e = rw (eq-eqb (length w) 1 e)
+  one_dash e f = rw (eq-eqb (length w) 1 e, eq-eqb (get_or w 0 0) 45 f)
+
+  pub one_other : length w ≡ 1 → (get_or w 0 0 ≡ 45 → ⊥) → false ≡ none_word w
+  unfolding none_word
+  one_other e n = rw (eq-eqb (length w) 1 e, ne_eqb (get_or w 0 0) 45 n)
 
 module _ (w s : List ℕ) where
-  pub bytes_none : none_word w ≡ true → (Of 0 ≡ bytes_count w s) × (s ≡ bytes_after w s)
+  pub bytes_none : none_word w ≡ true → (Some 0 ≡ bytes_count w s) × (s ≡ bytes_after w s)
   unfolding bytes_count bytes_after
   bytes_none e = (rw e, rw e)
 
-  pub bytes_empty : none_word w ≡ false → length w ≡ 0 → (counts.Refused ≡ bytes_count w s) × (s ≡ bytes_after w s)
+  pub bytes_empty : none_word w ≡ false → length w ≡ 0 → (None ≡ bytes_count w s) × (s ≡ bytes_after w s)
   unfolding bytes_count bytes_after
   bytes_empty e z = (rw (e, eq-eqb (length w) 0 z), rw (e, eq-eqb (length w) 0 z))
 
   pub bytes_some :
-      (r : Count) (last : List ℕ) →
+      (r : Option ℕ) (last : List ℕ) →
       none_word w ≡ false →
       (length w ≡ 0 → ⊥) →
       (r ≡ count_read w s) × (last ≡ bytes_read w s) →
       (r ≡ bytes_count w s) × (last ≡ bytes_after w s)
   unfolding bytes_count bytes_after
   bytes_some r last e n p = (rw (e, ne_eqb (length w) 0 n) p.0, rw (e, ne_eqb (length w) 0 n) p.1)
+
+-- what a test for emptiness tells
+pub is_nothing : {n : ℕ} {r : Bool} → r ≡ (n =? 0) → r ≡ true → n ≡ 0
+is_nothing {n} e t = eqb-true n 0 (sym e ∙ t)
+
+pub is_something : {n : ℕ} {r : Bool} → r ≡ (n =? 0) → r ≡ false → n ≡ 0 → ⊥
+is_something {n} e f z = clash (e ∙ eq-eqb n 0 z) f
 
 pub word_empty : (bs : List ℕ) → length bs ≡ 0 → bytes_word bs ∷ [] ≡ (45 ∷ []) ∷ []
 unfolding bytes_word

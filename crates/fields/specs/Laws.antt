@@ -1,5 +1,5 @@
 -- Laws of the numbers of words: a number that is written is read back, and numbers are put in one by one. Assumes nothing.
-use Rattle.std.specs.Prelude.{Bool, true, false, ◌&&◌, List, [], ◌∷◌, ◌++◌, ◌≡◌, refl, ℕ, zero, suc, ◌+◌, ◌/◌, ◌%◌, ◌≤◌, ◌<◌, length, set}
+use Rattle.std.specs.Prelude.{Bool, true, false, ◌&&◌, List, [], ◌∷◌, ◌++◌, ◌≡◌, refl, ℕ, zero, suc, ◌+◌, ◌/◌, ◌%◌, ◌≤◌, ◌<◌, length, set, Option, Some, None}
 use Rattle.std.proofs.Common.{sym, ◌∙◌, arith, leb-true, le-leb}
 use Rattle.paging.specs.Sets.{◌≤?◌}
 use Rattle.paging.specs.Tests.{and_right}
@@ -8,8 +8,6 @@ use Rattle.words.specs.Laws.{put_put}
 use Rattle.text.specs.Text.{digits_to, decimal}
 use Rattle.text.specs.Laws.{value_of, value_decimal, decimal_some}
 use Rattle.hexadecimal.specs.Laws.{set_put}
-use Rattle.fields.specs.declared.Value.{Value}
-use Rattle.fields.specs.declared.Value.TheVariants.{Is, Refused}
 use Rattle.fields.specs.Fields.{all_decimal, number_from, number_of}
 
 pub number_first : (most : ℕ) (w : List ℕ) → (length w ≡ 0 → ⊥) → number_of most w ≡ number_from most 0 w
@@ -46,11 +44,11 @@ unfolding decimal all_decimal
 decimal_right zero = refl
 decimal_right (suc n) = digits_decimal 20 (suc n)
 
-from_decimal : (most n : ℕ) → n ≤ most → n ≤ 18446744073709551615 → number_from most 0 (decimal n) ≡ Is n
+from_decimal : (most n : ℕ) → n ≤ most → n ≤ 18446744073709551615 → number_from most 0 (decimal n) ≡ Some n
 unfolding number_from
 from_decimal most n l h = rw (decimal_right n, value_decimal n h, le-leb n most l)
 
-pub number_back : (most n : ℕ) → n ≤ most → most ≤ 4294967295 → number_of most (decimal n) ≡ Is n
+pub number_back : (most n : ℕ) → n ≤ most → most ≤ 4294967295 → number_of most (decimal n) ≡ Some n
 number_back most n l h =
     number_first most (decimal n) (λ e. omega (arith, decimal_some n)) ∙ from_decimal most n l (omega arith)
 
@@ -61,9 +59,9 @@ put_more s at x ys l = sym (put_put s at (x ∷ []) ys (omega arith)) ∙ rw (se
 
 -- ---- a number that is read is at most the largest
 
-amount : Value → ℕ
-amount (Is n) = n
-amount Refused = 0
+amount : Option ℕ → ℕ
+amount (Some n) = n
+amount None = 0
 
 amount_most : (most : ℕ) (w : List ℕ) → amount (number_of most w) ≤ most
 unfolding amount number_of number_from
@@ -74,6 +72,6 @@ amount_most most (c ∷ cs) = go (all_decimal (c ∷ cs) && value_of 0 (c ∷ cs
     go true e = rw e (leb-true (value_of 0 (c ∷ cs)) most (and_right (all_decimal (c ∷ cs)) (value_of 0 (c ∷ cs) ≤? most) e))
     go false e = rw e (omega arith)
 
-pub number_most : (most : ℕ) (w : List ℕ) (n : ℕ) → Is n ≡ number_of most w → n ≤ most
+pub number_most : (most : ℕ) (w : List ℕ) (n : ℕ) → Some n ≡ number_of most w → n ≤ most
 unfolding amount
 number_most most w n e = rw (← e) at (amount_most most w)

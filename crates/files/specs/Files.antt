@@ -1,10 +1,10 @@
 -- The questions about frames, files and images, and their answers as texts. Assumes nothing.
-use Rattle.std.specs.Prelude.{List, ◌++◌, ℕ, if◌then◌else◌}
+use Rattle.refusals.specs.Numbers as refusals
+use Rattle.refusals.specs.declared.Refusal.{Refusal}
+use Rattle.std.specs.Prelude.{List, ◌++◌, ℕ, if◌then◌else◌, Result, Ok, Err}
 use Rattle.ranking.specs.Defaults.{default_priorities}
 use Rattle.run.specs.declared.Run.{Run}
 use Rattle.run.specs.declared.Restored.{Restored}
-use Rattle.run.specs.declared.Reading.{Reading}
-use Rattle.run.specs.declared.Reading.TheVariants.{Accepted, Refused}
 use Rattle.run.specs.Stored.{restored, stored, stored_bytes}
 use Rattle.frames.specs.Frames.{fill_refusal, filled, look_refusal, looked}
 use Rattle.trace.specs.declared.Traced.{Traced}
@@ -36,7 +36,7 @@ look_answer line = with_page line (λ r p. with_bytes (word_of 3 line) (looked_t
 -- ---- readtrace BYTES: `0 T OFFSET RECORD`
 
 unfoldable pub traced_texts : Traced → Texts
-traced_texts t = unless_refused t.refusal (number_texts t.requests ++ (number_texts t.offset ++ record_texts t.run))
+traced_texts t = unless_refused (refusals.number_in t.refusal) (number_texts t.requests ++ (number_texts t.offset ++ record_texts t.run))
 
 unfoldable pub readtrace_answer : List ℕ → Texts
 readtrace_answer line = with_bytes (word_of 1 line) (λ file. traced_texts (traced file))
@@ -49,7 +49,7 @@ written_texts refusal length buffer = unless_refused refusal (number_texts lengt
 unfoldable pub trace_texts : ℕ → ℕ → List ℕ → List ℕ → List ℕ → List ℕ → Texts
 trace_texts N k list priorities requests buffer =
     written_texts
-    (written N k list priorities requests buffer).refusal
+    (refusals.number_in (written N k list priorities requests buffer).refusal)
     (written N k list priorities requests buffer).length
     (written_bytes N k list priorities requests buffer)
 
@@ -74,9 +74,9 @@ writetrace_answer line = with_start line (λ N k list. requested_texts N k list 
 
 -- ---- readimage BYTES: `0 RECORD`
 
-unfoldable pub reading_texts : Reading → Run → Texts
-reading_texts Accepted r = refusal_texts 0 ++ record_texts r
-reading_texts (Refused n) r = refusal_texts n
+unfoldable pub reading_texts : Result Unit Refusal → Run → Texts
+reading_texts (Ok _) r = refusal_texts 0 ++ record_texts r
+reading_texts (Err n) r = refusal_texts (refusals.number n)
 
 unfoldable pub restored_texts : Restored → Texts
 restored_texts s = reading_texts s.event s.run
@@ -87,7 +87,7 @@ readimage_answer line = with_bytes (word_of 1 line) (λ image. restored_texts (r
 -- ---- writeimage RECORD BUFFER: `0 LENGTH BUFFER` afterwards
 
 unfoldable pub stored_texts : Run → List ℕ → Texts
-stored_texts r buffer = written_texts (stored r buffer).refusal (stored r buffer).length (stored_bytes r buffer)
+stored_texts r buffer = written_texts (refusals.number_in (stored r buffer).refusal) (stored r buffer).length (stored_bytes r buffer)
 
 unfoldable pub writeimage_answer : List ℕ → Texts
 writeimage_answer line = with_run (run_of (word_of 1 line)) (λ r. with_bytes (word_of 2 line) (stored_texts r))

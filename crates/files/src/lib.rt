@@ -3,14 +3,14 @@
 #![tactic(auto)]
 
 ghost use Rattle.std.specs.Prelude.{length};
+ghost use Rattle.refusals.specs.Numbers.{number_in};
 ghost use Rattle.hexadecimal.specs.Room.{Wrote};
-ghost use Rattle.files.specs.Files.{filled_texts, fill_texts, looked_texts, traced_texts, written_texts};
-ghost use Rattle.files.specs.Files.{given_texts, prioritised_texts, requested_texts, restored_texts, stored_texts, boarded_texts};
+ghost use Rattle.files.specs.Files.{filled_texts, looked_texts, traced_texts, written_texts};
+ghost use Rattle.files.specs.Files.{prioritised_texts, requested_texts, restored_texts, stored_texts, boarded_texts};
 ghost use Rattle.files.specs.Files.{fill_answer, look_answer, readtrace_answer, writetrace_answer, readimage_answer, writeimage_answer, board_answer};
 
-use fields::Value;
-use hexadecimal::Count;
-use run::{Reading, Restored, Run};
+use refusals::Refusal;
+use run::{Restored, Run};
 use trace::Traced;
 
 // The answer of a fill of an area.
@@ -24,55 +24,45 @@ fn filled<'a>(
 ) -> usize
     ensures { Wrote out.old at (filled_texts run page area.old bytes.now) result out.new }
 {
-    let refusal = frames::fill(run, page, area, bytes);
+    let refusal = frames::fill(run, page, area, bytes).err();
     let next = answers::refusal(out, at, refusal);
-    if refusal != 0 {
+    if refusal.is_some() {
         return next;
     }
     answers::then_bytes(out, next, area)
-}
-
-// The area and the bytes of a fill, behind its page.
-fn fill_of(line: &[u8], run: Run, page: usize, out: &mut [u8], at: usize) -> usize
-    ensures { Wrote out.old at (fill_texts line.now run page) result out.new }
-{
-    let mut area = asked::byte_room();
-    let third = fields::bytes(fields::word(line, 3), &mut area);
-    let Count::Of(size) = third else {
-        return answers::bad(out, at);
-    };
-    let mut bytes = asked::byte_room();
-    let fourth = fields::bytes(fields::word(line, 4), &mut bytes);
-    let Count::Of(given) = fourth else {
-        return answers::bad(out, at);
-    };
-    filled(
-        run,
-        page,
-        &mut area[0..size],
-        fields::first(&bytes, given),
-        out,
-        at,
-    )
 }
 
 // fill RECORD PAGE AREA BYTES
 pub fn fill(line: &[u8], out: &mut [u8], at: usize) -> usize
     ensures { Wrote out.old at (fill_answer line.now) result out.new }
 {
-    let paged = asked::read_paged(line);
-    if !paged.good {
+    let Some(paged) = asked::read_paged(line) else {
         return answers::bad(out, at);
-    }
-    fill_of(line, paged.run, paged.page, out, at)
+    };
+    let mut area = asked::room(0_u8);
+    let Some(size) = fields::bytes(fields::word(line, 3), &mut area) else {
+        return answers::bad(out, at);
+    };
+    let mut bytes = asked::room(0_u8);
+    let Some(given) = fields::bytes(fields::word(line, 4), &mut bytes) else {
+        return answers::bad(out, at);
+    };
+    filled(
+        paged.run,
+        paged.page,
+        &mut area[..size],
+        fields::first(&bytes, given),
+        out,
+        at,
+    )
 }
 
 // The answer of a look at an area.
 fn looked(run: Run, page: usize, area: &[u8], out: &mut [u8], at: usize) -> usize
     ensures { Wrote out.old at (looked_texts run page area.now) result out.new }
 {
-    let number = frames::look_refusal(run, page, area);
-    let next = answers::refusal(out, at, number);
+    let refusal = frames::look_refusal(run, page, area).err();
+    let next = answers::refusal(out, at, refusal);
     answers::then_bytes(out, next, frames::look(run, page, area))
 }
 
@@ -80,13 +70,11 @@ fn looked(run: Run, page: usize, area: &[u8], out: &mut [u8], at: usize) -> usiz
 pub fn look(line: &[u8], out: &mut [u8], at: usize) -> usize
     ensures { Wrote out.old at (look_answer line.now) result out.new }
 {
-    let paged = asked::read_paged(line);
-    if !paged.good {
+    let Some(paged) = asked::read_paged(line) else {
         return answers::bad(out, at);
-    }
-    let mut area = asked::byte_room();
-    let third = fields::bytes(fields::word(line, 3), &mut area);
-    let Count::Of(size) = third else {
+    };
+    let mut area = asked::room(0_u8);
+    let Some(size) = fields::bytes(fields::word(line, 3), &mut area) else {
         return answers::bad(out, at);
     };
     looked(paged.run, paged.page, fields::first(&area, size), out, at)
@@ -97,7 +85,7 @@ fn trace_read(traced: Traced, out: &mut [u8], at: usize) -> usize
     ensures { Wrote out.old at (traced_texts traced) result out.new }
 {
     let first = answers::refusal(out, at, traced.refusal);
-    if traced.refusal != 0 {
+    if traced.refusal.is_some() {
         return first;
     }
     let second = answers::then_number(out, first, traced.requests as u64);
@@ -109,50 +97,33 @@ fn trace_read(traced: Traced, out: &mut [u8], at: usize) -> usize
 pub fn readtrace(line: &[u8], out: &mut [u8], at: usize) -> usize
     ensures { Wrote out.old at (readtrace_answer line.now) result out.new }
 {
-    let mut bytes = asked::byte_room();
-    let count = fields::bytes(fields::word(line, 1), &mut bytes);
-    let Count::Of(size) = count else {
+    let mut bytes = asked::room(0_u8);
+    let Some(size) = fields::bytes(fields::word(line, 1), &mut bytes) else {
         return answers::bad(out, at);
     };
     trace_read(trace::read(fields::first(&bytes, size)), out, at)
 }
 
 // The answer of a writer: how much it wrote, and the whole buffer.
-fn written(refusal: u8, length: usize, buffer: &[u8], out: &mut [u8], at: usize) -> usize
-    ensures { Wrote out.old at (written_texts refusal length buffer.now) result out.new }
+fn written(
+    refusal: Option<Refusal>,
+    length: usize,
+    buffer: &[u8],
+    out: &mut [u8],
+    at: usize,
+) -> usize
+    ensures { Wrote out.old at (written_texts (number_in refusal) length buffer.now) result out.new }
 {
     let first = answers::refusal(out, at, refusal);
-    if refusal != 0 {
+    if refusal.is_some() {
         return first;
     }
     let second = answers::then_number(out, first, length as u64);
     answers::then_bytes(out, second, buffer)
 }
 
-// A trace file with the priorities of a list, into a buffer.
-fn trace_given<'a>(
-    pages: usize,
-    slots: usize,
-    list: &'a [u16],
-    word: &'a [u8],
-    requests: &'a [u16],
-    buffer: &'a mut [u8],
-    out: &mut [u8],
-    at: usize,
-) -> usize
-    ensures { Wrote out.old at (given_texts pages slots list.now word.now requests.now buffer.old) result out.new }
-{
-    let mut room = asked::number_room();
-    let count = fields::list(word, &mut room);
-    let Count::Of(given) = count else {
-        return answers::bad(out, at);
-    };
-    let priorities = fields::first_numbers(&room, given);
-    let done = trace::write(pages, slots, list, priorities, requests, buffer);
-    written(done.refusal, done.length, buffer, out, at)
-}
-
-// A trace file with a word for its priorities: `default`, or a list.
+// A trace file with a word for its priorities: `default`, or a list. Kept beside the like of it in calls, which makes other calls
+// of other arguments: closures for both would be no plainer.
 fn trace_by<'a>(
     pages: usize,
     slots: usize,
@@ -165,11 +136,17 @@ fn trace_by<'a>(
 ) -> usize
     ensures { Wrote out.old at (prioritised_texts pages slots list.now word.now requests.now buffer.old) result out.new }
 {
-    if check::same(word, b"default") {
+    if word == b"default".as_slice() {
         let done = trace::write_default(pages, slots, list, requests, buffer);
         return written(done.refusal, done.length, buffer, out, at);
     }
-    trace_given(pages, slots, list, word, requests, buffer, out, at)
+    let mut room = asked::room(0_u16);
+    let Some(given) = fields::list(word, &mut room) else {
+        return answers::bad(out, at);
+    };
+    let priorities = fields::first(&room, given);
+    let done = trace::write(pages, slots, list, priorities, requests, buffer);
+    written(done.refusal, done.length, buffer, out, at)
 }
 
 // The requests and the buffer of a trace writer, behind its start.
@@ -183,14 +160,12 @@ fn trace_requested<'a>(
 ) -> usize
     ensures { Wrote out.old at (requested_texts pages slots list.now line.now) result out.new }
 {
-    let mut requests = asked::number_room();
-    let fifth = fields::list(fields::word(line, 5), &mut requests);
-    let Count::Of(count) = fifth else {
+    let mut requests = asked::room(0_u16);
+    let Some(count) = fields::list(fields::word(line, 5), &mut requests) else {
         return answers::bad(out, at);
     };
-    let mut buffer = asked::byte_room();
-    let sixth = fields::bytes(fields::word(line, 6), &mut buffer);
-    let Count::Of(size) = sixth else {
+    let mut buffer = asked::room(0_u8);
+    let Some(size) = fields::bytes(fields::word(line, 6), &mut buffer) else {
         return answers::bad(out, at);
     };
     trace_by(
@@ -198,8 +173,8 @@ fn trace_requested<'a>(
         slots,
         list,
         fields::word(line, 4),
-        fields::first_numbers(&requests, count),
-        &mut buffer[0..size],
+        fields::first(&requests, count),
+        &mut buffer[..size],
         out,
         at,
     )
@@ -209,15 +184,14 @@ fn trace_requested<'a>(
 pub fn writetrace(line: &[u8], out: &mut [u8], at: usize) -> usize
     ensures { Wrote out.old at (writetrace_answer line.now) result out.new }
 {
-    let mut list = asked::number_room();
-    let words = asked::read_start(line, &mut list);
-    if !words.good {
+    let mut list = asked::room(0_u16);
+    let Some(words) = asked::read_start(line, &mut list) else {
         return answers::bad(out, at);
-    }
+    };
     trace_requested(
         words.pages,
         words.slots,
-        fields::first_numbers(&list, words.listed),
+        fields::first(&list, words.listed),
         line,
         out,
         at,
@@ -228,13 +202,12 @@ pub fn writetrace(line: &[u8], out: &mut [u8], at: usize) -> usize
 fn image_read(restored: Restored, out: &mut [u8], at: usize) -> usize
     ensures { Wrote out.old at (restored_texts restored) result out.new }
 {
-    let reading = restored.event;
-    match reading {
-        Reading::Accepted => {
-            let next = answers::refusal(out, at, 0);
+    match restored.event {
+        Ok(()) => {
+            let next = answers::refusal(out, at, None);
             answers::then_record(out, next, restored.run)
         }
-        Reading::Refused { number } => answers::refusal(out, at, number),
+        Err(refusal) => answers::refusal(out, at, Some(refusal)),
     }
 }
 
@@ -242,9 +215,8 @@ fn image_read(restored: Restored, out: &mut [u8], at: usize) -> usize
 pub fn readimage(line: &[u8], out: &mut [u8], at: usize) -> usize
     ensures { Wrote out.old at (readimage_answer line.now) result out.new }
 {
-    let mut bytes = asked::byte_room();
-    let count = fields::bytes(fields::word(line, 1), &mut bytes);
-    let Count::Of(size) = count else {
+    let mut bytes = asked::room(0_u8);
+    let Some(size) = fields::bytes(fields::word(line, 1), &mut bytes) else {
         return answers::bad(out, at);
     };
     image_read(Run::blank().restore(fields::first(&bytes, size)), out, at)
@@ -262,16 +234,14 @@ fn stored(run: Run, buffer: &mut [u8], out: &mut [u8], at: usize) -> usize
 pub fn writeimage(line: &[u8], out: &mut [u8], at: usize) -> usize
     ensures { Wrote out.old at (writeimage_answer line.now) result out.new }
 {
-    let described = asked::read_run(fields::word(line, 1));
-    if !described.good {
-        return answers::bad(out, at);
-    }
-    let mut buffer = asked::byte_room();
-    let count = fields::bytes(fields::word(line, 2), &mut buffer);
-    let Count::Of(size) = count else {
+    let Some(run) = asked::read_run(fields::word(line, 1)) else {
         return answers::bad(out, at);
     };
-    stored(described.run, &mut buffer[0..size], out, at)
+    let mut buffer = asked::room(0_u8);
+    let Some(size) = fields::bytes(fields::word(line, 2), &mut buffer) else {
+        return answers::bad(out, at);
+    };
+    stored(run, &mut buffer[..size], out, at)
 }
 
 // The answer of the board entry, over the whole of a buffer.
@@ -279,7 +249,7 @@ fn boarded(image: &mut [u8], page: u32, out: &mut [u8], at: usize) -> usize
     ensures { Wrote out.old at (boarded_texts image.old page) result out.new }
 {
     let packed = board::timonedra_serve(image, page);
-    let next = fields::write_number(out, at, packed as u64);
+    let next = fields::write_number(out, at, u64::from(packed));
     answers::then_bytes(out, next, image)
 }
 
@@ -287,14 +257,12 @@ fn boarded(image: &mut [u8], page: u32, out: &mut [u8], at: usize) -> usize
 pub fn serve_board(line: &[u8], out: &mut [u8], at: usize) -> usize
     ensures { Wrote out.old at (board_answer line.now) result out.new }
 {
-    let mut bytes = asked::byte_room();
-    let count = fields::bytes(fields::word(line, 1), &mut bytes);
-    let Count::Of(size) = count else {
+    let mut bytes = asked::room(0_u8);
+    let Some(size) = fields::bytes(fields::word(line, 1), &mut bytes) else {
         return answers::bad(out, at);
     };
-    let number = asked::read_number(fields::word(line, 2));
-    let Value::Is(page) = number else {
+    let Some(page) = asked::read_number(fields::word(line, 2)) else {
         return answers::bad(out, at);
     };
-    boarded(&mut bytes[0..size], (page % 4294967296) as u32, out, at)
+    boarded(&mut bytes[..size], page as u32, out, at)
 }

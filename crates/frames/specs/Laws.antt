@@ -1,16 +1,15 @@
 -- The refusals of Fill and Look as the code finds them: first what both begin with, then the page's bytes, then its slot.
 -- Each law says what an answer of the code is. Assumes nothing.
-use Rattle.std.specs.Prelude.{Bool, true, false, List, [], ◌≡◌, ℕ, ◌+◌, ◌*◌, ◌-◌, ◌≤◌, ◌<◌, length, take, drop, nat_eq, nat_lt}
+use Rattle.std.specs.Prelude as rust
+use Rattle.std.specs.Prelude.{Some, None, Bool, true, false, List, [], ◌≡◌, ℕ, ◌+◌, ◌*◌, ◌-◌, ◌≤◌, ◌<◌, length, take, drop, nat_eq, nat_lt}
 use Rattle.std.proofs.Math.Option
-use Rattle.std.proofs.Math.Option.{Option, none, some}
+use Rattle.std.proofs.Math.Option.{Option, some}
 use Rattle.std.proofs.Math.Path.{Path, refl}
 use Rattle.std.proofs.Common.{sym, ap, ◌∙◌, arith}
 use borrow.Author.Tests.{lt-ltb, le-ltb, ltb-true, eqb-true, eq-eqb, ne_eqb}
 use Rattle.paging.specs.Sets.{◌=?◌, ◌<?◌, unless◌give◌else◌}
-use Rattle.slots.specs.declared.Found.{Found}
-use Rattle.slots.specs.declared.Found.TheVariants.{At, Nowhere}
 use Rattle.slots.specs.Slots.{seat, found}
-use Rattle.slots.specs.Laws.{seated_in, seat_some, seat_none}
+use Rattle.slots.specs.Laws.{seated_in, seat_some, seat_none, found_at, found_none}
 use Rattle.words.specs.Words.{put}
 use Rattle.run.specs.declared.Run.{Run}
 use Rattle.run.specs.Cached.{cached, slot_of}
@@ -92,19 +91,11 @@ module _ (r : Run) (p size : ℕ) where
 
 -- ---- the slot of a page, as `find` gives it
 
-found_at : (x : Option ℕ) (s : ℕ) → At s ≡ found x → Path (Option ℕ) x (some s)
-found_at none s e = let z : ◌≡◌ {A = ℕ} 0 1 = cc in absurd (omega arith)
-found_at (some t) s e = let same : t ≡ s = cc in ap some same
-
-found_none : (x : Option ℕ) → Nowhere ≡ found x → Path (Option ℕ) x none
-found_none none e = refl
-found_none (some t) e = let z : ◌≡◌ {A = ℕ} 0 1 = cc in absurd (omega arith)
-
 -- What `find` answers.
-abbrev pub place : Run → ℕ → Found
+abbrev pub place : Run → ℕ → rust.Option ℕ
 place r p = found (seat r.held r.slots p)
 
-away : (r : Run) (p : ℕ) → Nowhere ≡ place r p → cached r p ≡ false
+away : (r : Run) (p : ℕ) → None ≡ place r p → cached r p ≡ false
 away r p e = seat_none r.held r.slots p (found_none (seat r.held r.slots p) e)
 
 -- A page of a run that Fill and Look do not refuse, in slot s: its frame lies in the area.
@@ -126,7 +117,7 @@ frame_of r p size w e =
       fits = omega (arith, w.area);
     }
 
-pub frame : (r : Run) (p size s : ℕ) → Begun r p size → At s ≡ place r p → Frame r p size s
+pub frame : (r : Run) (p size s : ℕ) → Begun r p size → Some s ≡ place r p → Frame r p size s
 frame r p size s w e =
     let is : Path (Option ℕ) (seat r.held r.slots p) (some s) = found_at (seat r.held r.slots p) s e in
     let (l, h) = seat_some r.held r.slots p s is in
@@ -171,7 +162,7 @@ module _ (r : Run) (p : ℕ) (area page : List ℕ) where
     pub fill_bytes : (length page ≡ 64 → ⊥) → Filled 11 area
     fill_bytes ne = refused 11 (begun 11 (rw (ne_eqb (length page) 64 ne))) (λ z. omega arith)
 
-    pub fill_away : length page ≡ 64 → Nowhere ≡ place r p → Filled 12 area
+    pub fill_away : length page ≡ 64 → None ≡ place r p → Filled 12 area
     fill_away l e = refused 12 (begun 12 (rw (l, away r p e))) (λ z. omega arith)
 
   -- not refused, it has a frame to fill and a page's bytes to fill it with
@@ -205,7 +196,7 @@ module _ (r : Run) (p : ℕ) (area : List ℕ) where
   pub look_stopped : (n : ℕ) → n ≡ area_refusal r p (length area) 0 → (n ≡ 0 → ⊥) → n ≡ look_refusal r p area
   look_stopped n e ne = area_stops r p (length area) n e ne own_look ∙ look_begins
 
-  pub look_away : Begun r p (length area) → Nowhere ≡ place r p → 12 ≡ look_refusal r p area
+  pub look_away : Begun r p (length area) → None ≡ place r p → 12 ≡ look_refusal r p area
   look_away w e = area_rest r p (length area) w 12 own_look (rw (away r p e)) ∙ look_begins
 
   pub look_none : (s : ℕ) → Frame r p (length area) s → 0 ≡ look_refusal r p area

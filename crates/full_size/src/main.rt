@@ -2,6 +2,7 @@
 // N = 1024 and k = 64, the last requests of a run, trace A, and the calls on an unsound run.
 #![tactic(auto)]
 
+use refusals::{Refusal, number_in};
 use run::{Run, Served};
 use serve::Event;
 use std::io;
@@ -13,7 +14,7 @@ fn line(rt: &impl Print, page: u64, served: Served) -> io::Result<()> {
     match event {
         Event::Hit { slot } => println!(rt; "hit {page} {slot} {best}"),
         Event::Miss { slot, victim } => println!(rt; "swap {page} {slot} {victim} {best}"),
-        Event::Refused { number } => println!(rt; "refused {page} {number}"),
+        Event::Refused(refusal) => println!(rt; "refused {page} {}", refusal.number()),
     }
 }
 
@@ -90,8 +91,8 @@ fn trace_a(rt: &impl Print) -> io::Result<()> {
 }
 
 // The number of a refusal, and a space.
-fn told(rt: &impl Print, refusal: u8) -> io::Result<()> {
-    print!(rt; "{refusal} ")
+fn told(rt: &impl Print, refusal: Option<Refusal>) -> io::Result<()> {
+    print!(rt; "{} ", number_in(refusal))
 }
 
 fn start_refusal(rt: &impl Print, pages: usize, slots: usize, list: &[u16]) -> io::Result<()> {
@@ -121,7 +122,7 @@ fn refusals(rt: &impl Print, list: &[u16]) -> io::Result<()> {
 fn main(rt: HostRuntime) -> io::Result<()> {
     let list = pages_from(0);
     let begun = Run::start_default(1024, 64, &list);
-    println!(rt; "{}", begun.refusal)?;
+    println!(rt; "{}", number_in(begun.refusal))?;
     let run = long_trace(begun.run);
     counts(&rt, run)?;
     refusals(&rt, &list)?;

@@ -1,9 +1,7 @@
 -- Bytes in lower-case hexadecimal digits, in ASCII, the high digit first. Assumes nothing.
-use Rattle.std.specs.Prelude.{Bool, true, ◌&&◌, List, [], ◌∷◌, ℕ, ◌+◌, ◌-◌, ◌*◌, ◌/◌, ◌%◌, length, if◌then◌else◌}
+use Rattle.std.specs.Prelude.{Bool, true, ◌&&◌, List, [], ◌∷◌, ℕ, ◌+◌, ◌-◌, ◌*◌, ◌/◌, ◌%◌, length, if◌then◌else◌, Option, Some, None}
 use Rattle.paging.specs.Sets.{◌=?◌, ◌≤?◌, ◌<?◌}
 use Rattle.words.specs.Words.{put}
-use Rattle.hexadecimal.specs.declared.Count.{Count}
-use Rattle.hexadecimal.specs.declared.Count.TheVariants.{Of, Refused}
 
 -- The value of a digit, `0` to `9` and `a` to `f`, and 16 for every other character.
 unfoldable pub value_of : ℕ → ℕ
@@ -13,6 +11,10 @@ value_of c =
     if c <? 97 then 16 else
     if c ≤? 102 then c - 87 else
     16
+
+-- The value of a digit, and nothing of every other character.
+unfoldable pub digit_value : ℕ → Option ℕ
+digit_value c = if value_of c ≤? 15 then Some (value_of c) else None
 
 -- The digit of the low four bits of a number.
 unfoldable pub digit_of : ℕ → ℕ
@@ -41,8 +43,8 @@ bytes_of (c ∷ d ∷ cs) = byte_of c d ∷ bytes_of cs
 unfoldable pub readable : List ℕ → List ℕ → Bool
 readable word s = length word % 2 =? 0 && length word / 2 ≤? length s && all_digits word
 
-unfoldable pub count_read : List ℕ → List ℕ → Count
-count_read word s = if readable word s then Of (length word / 2) else Refused
+unfoldable pub count_read : List ℕ → List ℕ → Option ℕ
+count_read word s = if readable word s then Some (length word / 2) else None
 
 unfoldable pub bytes_read : List ℕ → List ℕ → List ℕ
 bytes_read word s = if readable word s then put s 0 (bytes_of word) else s

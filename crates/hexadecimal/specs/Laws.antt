@@ -1,5 +1,5 @@
 -- Laws of hexadecimal digits: how many there are, and what is written is read back. Assumes nothing.
-use Rattle.std.specs.Prelude.{Bool, true, false, ◌&&◌, List, [], ◌∷◌, ◌++◌, ◌≡◌, refl, ℕ, zero, suc, ◌+◌, ◌*◌, ◌/◌, ◌%◌, ◌≤◌, ◌<◌, set, slice_index_or, if◌then◌else◌}
+use Rattle.std.specs.Prelude.{Bool, true, false, ◌&&◌, List, [], ◌∷◌, ◌++◌, ◌≡◌, refl, ℕ, zero, suc, ◌+◌, ◌*◌, ◌/◌, ◌%◌, ◌≤◌, ◌<◌, set, slice_index_or, if◌then◌else◌, Some, None}
 use Rattle.std.proofs.Common.{sym, ap, ◌∙◌, add-one, arith, length-append}
 use borrow.Author.Tests.{leb-true, le-leb, lt-leb, le-ltb, lt-ltb, ltb-true, ltb-false, eq-eqb, ne_eqb}
 use Rattle.std.proofs.Math.ListN.{length}
@@ -7,7 +7,6 @@ use Rattle.std.proofs.lemmas.List.{set_split}
 use Rattle.paging.specs.Sets.{◌=?◌, ◌≤?◌, ◌<?◌}
 use Rattle.words.specs.Words.{put}
 use Rattle.words.specs.Laws.{Bytes, put_length, put_put, put_none}
-use Rattle.hexadecimal.specs.declared.Count.TheVariants.{Of, Refused}
 use Rattle.hexadecimal.specs.Hex.{value_of, digit_of, digits, all_digits, byte_of, bytes_of, readable, count_read, bytes_read}
 use Rattle.hexadecimal.specs.Room.{placed, behind, placed_all, behind_all, Wrote}
 
@@ -51,11 +50,11 @@ bytes_entry (c ∷ d ∷ cs) (suc i) l =
 -- ---- a word is read or refused
 
 module _ (w s : List ℕ) where
-  pub word_refused : readable w s ≡ false → (Refused ≡ count_read w s) × (s ≡ bytes_read w s)
+  pub word_refused : readable w s ≡ false → (None ≡ count_read w s) × (s ≡ bytes_read w s)
   unfolding count_read bytes_read
   word_refused e = (rw e, rw e)
 
-  pub word_read : readable w s ≡ true → (Of (length w / 2) ≡ count_read w s) × (put s 0 (bytes_of w) ≡ bytes_read w s)
+  pub word_read : readable w s ≡ true → (Some (length w / 2) ≡ count_read w s) × (put s 0 (bytes_of w) ≡ bytes_read w s)
   unfolding count_read bytes_read
   word_read e = (rw e, rw e)
 

@@ -9,7 +9,7 @@ use Rattle.paging.specs.Tables.{listed_length, listed_entry, listed_same}
 use Rattle.words.specs.Words.{words, word_at}
 use Rattle.words.specs.Laws.{words_length}
 use Rattle.begin.specs.Limits.{limits_refusal}
-use Rattle.begin.specs.LimitLaws.{Limits, limits_hold}
+use Rattle.begin.specs.LimitLaws.{Limits, limits_hold, limits_small}
 use Rattle.image.specs.Layout.{mark_byte, image_header, image_length, pages_in, slots_in, offsets_right, image_refusal}
 
 -- ---- a mark byte
@@ -118,11 +118,6 @@ module _ (b : List ℕ) where
       (eq-eqb (word_at 4 b 28) (36 + pages_in b) o.slots))
       (eq-eqb (word_at 4 b 32) (36 + pages_in b + 2 * slots_in b) o.priorities)
 
-  -- where the first two are right, the third decides
-  pub offsets_last : word_at 4 b 24 ≡ 36 → word_at 4 b 28 ≡ 36 + pages_in b → priorities_right ≡ offsets_right b
-  unfolding offsets_right
-  offsets_last p q = rw (eq-eqb (word_at 4 b 24) 36 p, eq-eqb (word_at 4 b 28) (36 + pages_in b) q)
-
 -- ---- each refusal, from the numbers
 
 module _ (b : List ℕ) where
@@ -177,6 +172,23 @@ refusal_read b e =
     go (inl h) (inl l) (inl o) (inr t) = absurd (omega (arith, refusal_total b h l o t))
     go (inl h) (inl l) (inl o) (inl t) =
         record { long = h; limits = limits_hold (pages_in b) (slots_in b) l; offsets = offsets_true b o; total = t }
+
+-- every refusal has a number of document 01's table
+pub refusal_small : (b : List ℕ) → image_refusal b ≤ 17
+refusal_small b =
+    go (le_or_lt 36 (length b)) (same_or_not (limits b) 0) (truth (offsets_right b)) (same_or_not (length b) (total b))
+  where
+    go :
+        (36 ≤ length b) ⊎ (length b < 36) →
+        (limits b ≡ 0) ⊎ (limits b ≡ 0 → ⊥) →
+        (offsets_right b ≡ true) ⊎ (offsets_right b ≡ false) →
+        (length b ≡ total b) ⊎ (length b ≡ total b → ⊥) →
+        image_refusal b ≤ 17
+    go (inr h) l o t = omega (arith, refusal_short b h)
+    go (inl h) (inr l) o t = omega (arith, refusal_limits b h l, limits_small (pages_in b) (slots_in b))
+    go (inl h) (inl l) (inr o) t = omega (arith, refusal_offsets b h l o)
+    go (inl h) (inl l) (inl o) (inr t) = omega (arith, refusal_total b h l o t)
+    go (inl h) (inl l) (inl o) (inl t) = omega (arith, refusal_none b h l o t)
 
 -- the sections stand inside the image
 pub read_room : (b : List ℕ) → Read b → 36 + 3 * pages_in b + 2 * slots_in b ≤ length b

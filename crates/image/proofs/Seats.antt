@@ -1,21 +1,23 @@
 -- A loop that marks the pages in the slots, one a turn, and passes over a number from 1024 on; the marks of an image against these.
 -- Assumes nothing.
-use mathlib.Core.Bool.{Bool, true, false, not, ◌||◌, beq}
+use mathlib.Core.Bool.{Bool, true, false, ◌||◌, beq}
 use mathlib.Core.List.{List}
 use mathlib.Core.Logic.{⊎_elim}
 use mathlib.Core.Path.{◌≡◌, refl, sym, ap, ◌∙◌}
-use Prim.Native.Nat.{ℕ, suc, ◌+◌, ◌≤◌, ◌<◌}
+use Prim.Native.Nat.{ℕ, suc, ◌+◌, ◌-◌, ◌≤◌, ◌<◌}
 use native.Mathlib.Numerals.{add-one}
 use native.Mathlib.Omega.{arith}
 use lib.Dec.{eqb, leb}
-use lib.ListN.{length, get_or, set, replicate, length-set, length-replicate, get_or-replicate}
+use Rattle.std.specs.List.{list_all, enumerate_from}
+use lib.ListN.{length, get_or, set, take, drop, replicate, length-set, length-replicate, get_or-replicate}
 use lib.Seq.{get_or-set_same, get_or-set_other, ext_get_or}
-use borrow.Author.Tests.{eq-eqb, ne_eqb, not-true, not-false}
-use Rattle.paging.specs.Sets.{any, table}
-use Rattle.paging.specs.Tests.{clash, isnt, or_right, beq_true, beq_in, same_or_not}
-use Rattle.paging.specs.Words.{each_true, each_in}
+use borrow.Author.Tests.{eq-eqb, ne_eqb}
+use Rattle.paging.specs.Sets.{any, each, table}
+use Rattle.paging.specs.Tests.{or_right, same_or_not}
 use Rattle.paging.specs.Tables.{entry_any, table_at, table_length}
 use Rattle.slots.specs.Slots.{no_page, seated}
+use Rattle.begin.proofs.Lists.{each_placed, each_same}
+use Rattle.image.proofs.Sections.{part_length, part_entry}
 use Rattle.image.specs.Layout.{image_slots, marks_agree}
 
 -- The pages in the first s slots are marked.
@@ -102,26 +104,17 @@ marked_at marks f e q l = rw e (table_at 1024 1024 false f q l)
 
 -- ---- the marks of an image against these
 
-pub same_mark : (read mark found : Bool) → found ≡ read → not (beq found mark) ≡ false → read ≡ mark
-same_mark read mark found e h = sym e ∙ beq_true found mark (not-false (beq found mark) h)
+-- the mark at a place is that of the page
+abbrev pub agreeing : List Bool → ℕ × ℕ → Bool
+agreeing marks e = beq (leb 128 e.1) (get_or marks e.0 false)
 
-pub other_mark : (read mark found : Bool) → found ≡ read → not (beq found mark) ≡ true → read ≡ mark → ⊥
-other_mark read mark found e h s = clash (beq_in found mark (e ∙ s)) (not-true (beq found mark) h)
-
-module _ (N k : ℕ) (b held : List ℕ) (marks : List Bool) (fits : N ≤ 1024) where
-  abbrev read_at : ℕ → Bool
-  read_at q = leb 128 (get_or b (36 + q) 0)
-
-  module _ (stored : held ≡ image_slots N k b) (made : marks ≡ table 1024 1024 false (seated held k)) where
-    mark_is : (q : ℕ) → q < N → get_or marks q false ≡ seated (image_slots N k b) k q
-    mark_is q l = marked_at marks (seated held k) made q (omega arith) ∙ ap (λ (h : List ℕ). seated h k q) stored
-
-    pub agree_not : (q : ℕ) → q < N → (read_at q ≡ get_or marks q false → ⊥) → false ≡ marks_agree N k b
-    unfolding marks_agree
-    agree_not q l ne =
-        sym (isnt (marks_agree N k b) (λ e. ne (beq_true _ _ (each_true N _ e q l) ∙ sym (mark_is q l))))
-
-    pub agree_all :
-        (q : ℕ) → N ≤ q → ((p : ℕ) → p < q → read_at p ≡ get_or marks p false) → true ≡ marks_agree N k b
-    unfolding marks_agree
-    agree_all q h all = sym (each_in N _ (λ p l. beq_in _ _ (all p (omega arith) ∙ mark_is p l)))
+module _ (N k : ℕ) (b held : List ℕ) (marks : List Bool) (fits : N ≤ 1024) (long : 36 + N ≤ length b) where
+  pub agree_each :
+      held ≡ image_slots N k b →
+      marks ≡ table 1024 1024 false (seated held k) →
+      list_all (agreeing marks) (enumerate_from 0 (take (36 + N - 36) (drop 36 b))) ≡ marks_agree N k b
+  unfolding marks_agree
+  agree_each stored made =
+      each_placed (agreeing marks) 0 (take (36 + N - 36) (drop 36 b))
+      ∙ (ap (λ (n : ℕ). each n (λ q. agreeing marks (q, get_or (take (36 + N - 36) (drop 36 b)) q 0))) (part_length b 36 N long)
+      ∙ each_same N _ _ (λ q l. rw (part_entry b 36 N q 0 l, marked_at marks (seated held k) made q (omega arith), stored) refl))

@@ -4,11 +4,15 @@
 ghost use Rattle.std.specs.Prelude.{false, ◌++◌, ◌≡◌, ℕ, ◌+◌, ◌*◌, ◌%◌, ◌≤◌, ◌<◌, length, slice_index_or};
 ghost use Rattle.paging.specs.Sets.{◌≤?◌, listed, table};
 ghost use Rattle.words.specs.Words.{words, word_at, put};
+ghost use Rattle.refusals.specs.Numbers.{told};
 ghost use Rattle.slots.specs.Slots.{no_page, seated};
 ghost use Rattle.begin.specs.Limits.{most_pages, most_slots};
 ghost use Rattle.image.specs.Layout.{mark_byte, image_header, offsets_right, image_bytes, image_length, image_refusal, image_layers, image_slots, image_priorities, marks_agree};
 
+use refusals::Refusal;
+
 // A mark byte: the layer in bits 0 to 6, cached in bit 7.
+#[tactic(auto, using(crate::proofs::Bits::joined))]
 fn mark(layer: u8, cached: bool) -> u8
     requires { layer < 128 }
     ensures { result ≡ mark_byte layer cached }
@@ -24,6 +28,7 @@ fn mark_layer(mark: u8) -> u8
 }
 
 // Whether a mark says cached.
+#[tactic(auto, using(crate::proofs::Bits::top_bit))]
 fn mark_cached(mark: u8) -> bool
     ensures { result ≡ 128 ≤? mark }
 {
@@ -39,43 +44,37 @@ fn number_at(image: &[u8], at: usize) -> usize
 }
 
 // Whether the header's three offsets are those of the layout.
+#[tactic(auto, unfolding(crate::specs::Layout::offsets_right))]
 fn offsets_right(image: &[u8]) -> bool
     requires { 36 ≤ length image.now }
     ensures { result ≡ offsets_right image.now }
 {
     let pages = number_at(image, 0);
     let slots = number_at(image, 4);
-    if number_at(image, 24) != 36 {
-        return false;
-    }
-    if number_at(image, 28) != 36 + pages {
-        return false;
-    }
-    number_at(image, 32) == 36 + pages + 2 * slots
+    number_at(image, 24) == 36
+        && number_at(image, 28) == 36 + pages
+        && number_at(image, 32) == 36 + pages + 2 * slots
 }
 
-// The refusal that the length and the header of an image give: 13, 2, 3, 15, 13, or 0. The limits are the run's.
-pub fn refusal(image: &[u8], pagelimit: usize, slotlimit: usize) -> u8
+// The refusal that the length and the header of an image give: 13, 2, 3, 15, 13. The limits are the run's.
+pub fn refusal(image: &[u8], pagelimit: usize, slotlimit: usize) -> Result<(), Refusal>
     requires { (pagelimit ≡ most_pages) × (slotlimit ≡ most_slots) }
-    ensures { result ≡ image_refusal image.now }
+    ensures { told result ≡ image_refusal image.now }
 {
     let length = image.len();
     if length < 36 {
-        return 13;
+        return Err(Refusal::Length);
     }
     let pages = number_at(image, 0);
     let slots = number_at(image, 4);
-    let limits = begin::limits_refusal(pages, slots, pagelimit, slotlimit);
-    if limits != 0 {
-        return limits;
-    }
+    begin::limits_refusal(pages, slots, pagelimit, slotlimit)?;
     if !offsets_right(image) {
-        return 15;
+        return Err(Refusal::Offset);
     }
     if length != 36 + 3 * pages + 2 * slots {
-        return 13;
+        return Err(Refusal::Length);
     }
-    0
+    Ok(())
 }
 
 // The layer of each page, 0 from N on.
@@ -84,42 +83,28 @@ pub fn layers(image: &[u8], pages: usize) -> [u8; 1024]
     ensures { result ≡ image_layers pages image.now }
 {
     let mut layer: [u8; 1024] = [0; 1024];
-    let mut q = 0;
-    while q < pages {
-        layer[q] = mark_layer(image[36 + q]);
-        q += 1;
+    for (q, mark) in image[36..36 + pages].iter().enumerate() {
+        layer[q] = mark_layer(*mark);
     }
     layer
 }
 
 // The page in each slot, no page from k on.
+#[tactic(auto, unfolding(crate::specs::Layout::image_slots))]
 pub fn slots(image: &[u8], pages: usize, slots: usize) -> [u16; 64]
     requires { (pages ≤ 1024) × (slots ≤ 64) × (36 + pages + 2 * slots ≤ length image.now) }
     ensures { result ≡ image_slots pages slots image.now }
 {
-    let at = 36 + pages;
-    let mut held: [u16; 64] = [65535; 64];
-    let mut s = 0;
-    while s < slots {
-        held[s] = words::read_u16(image, at + 2 * s);
-        s += 1;
-    }
-    held
+    words::read_list(image, 36 + pages, slots, 65535)
 }
 
 // The priority of each page, 0 from N on.
+#[tactic(auto, unfolding(crate::specs::Layout::image_priorities))]
 pub fn priorities(image: &[u8], pages: usize, slots: usize) -> [u16; 1024]
     requires { (pages ≤ 1024) × (slots ≤ 64) × (36 + 3 * pages + 2 * slots ≤ length image.now) }
     ensures { result ≡ image_priorities pages slots image.now }
 {
-    let at = 36 + pages + 2 * slots;
-    let mut priority: [u16; 1024] = [0; 1024];
-    let mut q = 0;
-    while q < pages {
-        priority[q] = words::read_u16(image, at + 2 * q);
-        q += 1;
-    }
-    priority
+    words::read_list(image, 36 + pages + 2 * slots, pages, 0)
 }
 
 // The pages in the slots, marked. A number that is no page is passed over.
@@ -127,16 +112,11 @@ fn seated_marks(held: &[u16; 64], slots: usize) -> [bool; 1024]
     requires { slots ≤ 64 }
     ensures { result ≡ table 1024 1024 false (seated held.now slots) }
 {
-    // A slice knows its length: a slot below 64 is an entry of the list.
-    let entries: &[u16] = held;
     let mut marks: [bool; 1024] = [false; 1024];
-    let mut s = 0;
-    while s < slots {
-        let page = entries[s] as usize;
-        if page < 1024 {
-            marks[page] = true;
+    for page in &held[..slots] {
+        if *page < 1024 {
+            marks[*page as usize] = true;
         }
-        s += 1;
     }
     marks
 }
@@ -149,103 +129,85 @@ pub fn agree(image: &[u8], pages: usize, slots: usize) -> bool
     // The number of slots hides the function of that name.
     let held = crate::slots(image, pages, slots);
     let marks = seated_marks(&held, slots);
-    let mut q = 0;
-    while q < pages {
-        if mark_cached(image[36 + q]) != marks[q] {
-            return false;
+    image[36..36 + pages]
+        .iter()
+        .enumerate()
+        .all(|(q, mark)| mark_cached(*mark) == marks[q])
+}
+
+// What an image is written from: a run's numbers and its tables.
+#[derive(Clone, Copy)]
+pub struct Parts<'a> {
+    pub pages: usize,
+    pub slots: usize,
+    pub served: u32,
+    pub hits: u32,
+    pub misses: u32,
+    pub best: u32,
+    pub layer: &'a [u8; 1024],
+    pub priority: &'a [u16; 1024],
+    pub held: &'a [u16; 64],
+}
+
+impl<'a> Parts<'a> {
+    // Writes the nine numbers of the header.
+    fn write_header(self, out: &mut [u8])
+        requires { (self.pages ≤ 1024) × (self.slots ≤ 64) × (36 ≤ length out.old) }
+        ensures { out.new ≡ put out.old 0 (words 4 (image_header self.entry.pages self.entry.slots self.entry.served self.entry.hits self.entry.misses self.entry.best)) }
+    {
+        let pages = self.pages as u32;
+        let slots = self.slots as u32;
+        let header = [
+            pages,
+            slots,
+            self.served,
+            self.hits,
+            self.misses,
+            self.best,
+            36,
+            36 + pages,
+            36 + pages + 2 * slots,
+        ];
+        for (i, number) in header.iter().enumerate() {
+            words::write_u32(out, 4 * i, *number);
         }
-        q += 1;
     }
-    true
-}
 
-// Writes the nine numbers of the header.
-fn write_header(
-    out: &mut [u8],
-    pages: u32,
-    slots: u32,
-    served: u32,
-    hits: u32,
-    misses: u32,
-    best: u32,
-)
-    requires { (pages ≤ 1024) × (slots ≤ 64) × (36 ≤ length out.old) }
-    ensures { out.new ≡ put out.old 0 (words 4 (image_header pages slots served hits misses best)) }
-{
-    let header = [
-        pages,
-        slots,
-        served,
-        hits,
-        misses,
-        best,
-        36,
-        36 + pages,
-        36 + pages + 2 * slots,
-    ];
-    let mut i = 0;
-    while i < 9 {
-        words::write_u32(out, 4 * i, header[i]);
-        i += 1;
+    // Writes the mark of each page.
+    fn write_marks(self, out: &mut [u8])
+        requires { (self.pages ≤ 1024) × (self.slots ≤ 64) × (36 + self.pages ≤ length out.old) × ((q : ℕ) → q < self.pages → slice_index_or self.layer.now q 0 ≤ 127) }
+        ensures { out.new ≡ put out.old 36 (listed self.entry.pages (λ q. mark_byte (slice_index_or self.entry.layer.now q 0) (seated self.entry.held.now self.entry.slots q))) }
+    {
+        let layer = self.layer;
+        let marks = seated_marks(self.held, self.slots);
+        for q in 0..self.pages {
+            out[36 + q] = mark(layer[q], marks[q]);
+        }
     }
-}
 
-// Writes the mark of each page.
-fn write_marks<'a>(
-    out: &'a mut [u8],
-    pages: usize,
-    slots: usize,
-    layer: &'a [u8; 1024],
-    held: &'a [u16; 64],
-)
-    requires { (pages ≤ 1024) × (slots ≤ 64) × (36 + pages ≤ length out.old) × ((q : ℕ) → q < pages → slice_index_or layer.now q 0 ≤ 127) }
-    ensures { out.new ≡ put out.old 36 (listed pages (λ q. mark_byte (slice_index_or layer.now q 0) (seated held.now slots q))) }
-{
-    let marks = seated_marks(held, slots);
-    let mut q = 0;
-    while q < pages {
-        out[36 + q] = mark(layer[q], marks[q]);
-        q += 1;
+    // Writes the page in each slot and the priority of each page.
+    fn write_lists(self, out: &mut [u8])
+        requires { (self.pages ≤ 1024) × (self.slots ≤ 64) × (36 + 3 * self.pages + 2 * self.slots ≤ length out.old) }
+        ensures { out.new ≡ put out.old (36 + self.entry.pages) (words 2 (listed self.entry.slots (λ s. slice_index_or self.entry.held.now s no_page)) ++ words 2 (listed self.entry.pages (λ q. slice_index_or self.entry.priority.now q 0))) }
+    {
+        // Slices know their lengths: slots below 64 and pages below 1024 are entries.
+        let (held, priority) = (self.held, self.priority);
+        let entries: &[u16] = held;
+        let numbers: &[u16] = priority;
+        let at = 36 + self.pages;
+        words::write_list(out, at, &entries[..self.slots]);
+        words::write_list(out, at + 2 * self.slots, &numbers[..self.pages]);
     }
-}
 
-// Writes the page in each slot and the priority of each page.
-fn write_lists<'a>(
-    out: &'a mut [u8],
-    pages: usize,
-    slots: usize,
-    held: &'a [u16; 64],
-    priority: &'a [u16; 1024],
-)
-    requires { (pages ≤ 1024) × (slots ≤ 64) × (36 + 3 * pages + 2 * slots ≤ length out.old) }
-    ensures { out.new ≡ put out.old (36 + pages) (words 2 (listed slots (λ s. slice_index_or held.now s no_page)) ++ words 2 (listed pages (λ q. slice_index_or priority.now q 0))) }
-{
-    // Slices know their lengths: slots below 64 and pages below 1024 are entries.
-    let entries: &[u16] = held;
-    let numbers: &[u16] = priority;
-    let at = 36 + pages;
-    words::write_list(out, at, &entries[..slots]);
-    words::write_list(out, at + 2 * slots, &numbers[..pages]);
-}
-
-// Writes a run's numbers and tables at the start of a buffer that has room for them. A mark has room for layers up to 127.
-pub fn write<'a>(
-    out: &'a mut [u8],
-    pages: usize,
-    slots: usize,
-    served: u32,
-    hits: u32,
-    misses: u32,
-    best: u32,
-    layer: &'a [u8; 1024],
-    priority: &'a [u16; 1024],
-    held: &'a [u16; 64],
-)
-    requires limits { (pages ≤ 1024) × (slots ≤ 64) × (image_length pages slots ≤ length out.old) }
-    requires narrow { (q : ℕ) → q < pages → slice_index_or layer.now q 0 ≤ 127 }
-    ensures { out.new ≡ put out.old 0 (image_bytes pages slots served hits misses best layer.now priority.now held.now) }
-{
-    write_header(out, pages as u32, slots as u32, served, hits, misses, best);
-    write_marks(out, pages, slots, layer, held);
-    write_lists(out, pages, slots, held, priority);
+    // Writes the image at the start of a buffer that has room for it. A mark has room for layers up to 127.
+    #[tactic(auto, unfolding(crate::specs::Layout::image_length))]
+    pub fn write(self, out: &mut [u8])
+        requires limits { (self.pages ≤ 1024) × (self.slots ≤ 64) × (image_length self.pages self.slots ≤ length out.old) }
+        requires narrow { (q : ℕ) → q < self.pages → slice_index_or self.layer.now q 0 ≤ 127 }
+        ensures { out.new ≡ put out.old 0 (image_bytes self.entry.pages self.entry.slots self.entry.served self.entry.hits self.entry.misses self.entry.best self.entry.layer.now self.entry.priority.now self.entry.held.now) }
+    {
+        self.write_header(out);
+        self.write_marks(out);
+        self.write_lists(out);
+    }
 }

@@ -1,12 +1,13 @@
 -- Tables that a loop or a store changes, entry by entry: `sunk`, `asked` and `seen_marks`. Assumes nothing.
 use mathlib.Core.Bool.{Bool, true, false, ◌||◌}
-use mathlib.Core.List.{List, [], ◌∷◌, ◌++◌}
+use mathlib.Core.List.{List, [], ◌∷◌, ◌++◌, append-nil}
+use Rattle.std.proofs.lemmas.List.{get_or-take}
 use mathlib.Core.Path.{◌≡◌, refl, sym, ap, ◌∙◌}
 use Prim.Native.Nat.{ℕ, zero, suc, ◌+◌, ◌≤◌, ◌<◌}
 use native.Mathlib.Numerals.{add-one}
 use native.Mathlib.Omega.{arith}
 use lib.Dec.{eqb}
-use lib.ListN.{length, get_or, set, drop, replicate}
+use lib.ListN.{length, get_or, set, take, drop, drop_of_length-le, length-take, replicate}
 use lib.Seq.{set-append_left}
 use borrow.Author.Tests.{eq-eqb, ne_eqb}
 use Rattle.paging.specs.Sets.{bit, any, each, listed}
@@ -16,10 +17,12 @@ use Rattle.paging.specs.Moves.{bar}
 use Rattle.paging.proofs.Moves.{next_moved}
 use Rattle.layers.specs.Asked.{layer_at, asked, lowered, sunk}
 use Rattle.layers.specs.Seen.{seen_marks}
+use Rattle.std.specs.List.{list_all}
+use Rattle.layers.proofs.Passes.{each_same, each_marked}
 use Rattle.layers.specs.Laws.{sunk_past, next_lowered}
-use Rattle.paging.specs.Tables.{listed_length, listed_entry, listed_set}
+use Rattle.paging.specs.Tables.{listed_length, listed_same, listed_entry, listed_set}
 
--- ---- sink, sink_near: one entry more is lowered
+-- ---- sink: one entry more is lowered
 
 front_step :
     (f : ℕ → ℕ) (l : List ℕ) (q : ℕ) → q < length l → set (listed q f ++ drop q l) q (f q) ≡ listed (suc q) f ++ drop (suc q) l
@@ -43,6 +46,15 @@ pub sunk_step :
     v ≡ lowered from (get_or out q 0) →
     set out q v ≡ sunk from (q + 1) l
 sunk_step from l out q v h e g = rw (g, e, sunk_past from q l q (omega arith), add-one q) (sunk_suc from l q h)
+
+-- the first n entries lowered by themselves, and the rest behind them
+pub sunk_front :
+    (from n : ℕ) (l front : List ℕ) → n ≤ length l → front ≡ sunk from n (take n l) → front ++ drop n l ≡ sunk from n l
+unfolding sunk
+sunk_front from n l front h e =
+    let none : drop n (take n l) ≡ [] = drop_of_length-le (take n l) (omega (arith, length-take n l)) in
+    let same = listed_same n (λ s. lowered from (get_or (take n l) s 0)) (λ s. lowered from (get_or l s 0)) (λ q less. ap (lowered from) (get_or-take n l q 0 less)) in
+    rw (e, none, append-nil, same)
 
 -- ---- ask: the layers sunk, and the page on top
 
@@ -112,11 +124,6 @@ seen_step L q i marks at h e = rw (e, add-one q) (listed_set 256 before after i 
 
 -- ---- filled: all the layers 1 to k are marked
 
-each_same : (n : ℕ) (f g : ℕ → Bool) → ((i : ℕ) → i < n → f i ≡ g i) → each n f ≡ each n g
-unfolding each
-each_same zero f g s = refl
-each_same (suc n) f g s = rw (each_same n f g (λ i l. s i (omega arith)), s n (omega arith))
-
 marked : (b : Bool) → eqb (bit b) 1 ≡ b
 marked true = refl
 marked false = refl
@@ -125,10 +132,12 @@ pub filled_end :
     (N k : ℕ) (L : ℕ → ℕ) (marks : List ℕ) →
     k ≤ 64 →
     marks ≡ seen_marks N L →
-    each k (λ j. eqb (get_or marks (suc j) 0) 1) ≡ each k (λ j. any N (in_layer L (suc j)))
+    list_all (λ mark. eqb mark 1) (take k (drop 1 marks)) ≡ each k (λ j. any N (in_layer L (suc j)))
 unfolding seen_marks
 filled_end N k L marks h e =
-    each_same k (λ j. eqb (get_or marks (suc j) 0) 1) (λ j. any N (in_layer L (suc j))) at_layer
+    let size : length marks ≡ 256 = rw e (listed_length 256 mark) in
+    each_marked marks k (omega arith)
+    ∙ each_same k (λ j. eqb (get_or marks (suc j) 0) 1) (λ j. any N (in_layer L (suc j))) at_layer
   where
     mark : ℕ → ℕ
     mark j = bit (any N (in_layer L j))

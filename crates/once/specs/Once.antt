@@ -2,6 +2,7 @@
 -- to it: κ the lifetimes, a what the call is given, x its answer, s what was lent, at exit. Assumes nothing.
 use Rattle.std.specs.Prelude.{List, ◌≡◌, ℕ}
 use Rattle.std.proofs.Common.{sym, ◌∙◌}
+use Rattle.refusals.specs.Laws.{told_once}
 use Rattle.run.proofs.Run.blank.Reads as blank
 use Rattle.run.proofs.Run.start.Reads as start
 use Rattle.run.proofs.Run.start_default.Reads as start_default
@@ -83,14 +84,14 @@ store_once κ a x y s t p q = (p.0 ∙ sym q.0, p.1 ∙ sym q.1)
 -- ---- frames. Of what Look hands back, the bytes: a contract names no address.
 
 pub fill_once : OnceLeft fill.Post (λ κ s. s.1.1.0.now)
-fill_once κ a x y s t p q = (p.0 ∙ sym q.0, p.1 ∙ sym q.1)
+fill_once κ a x y s t p q = (told_once x y (p.0 ∙ sym q.0), p.1 ∙ sym q.1)
 
 pub look_once :
     (κ : _) (a : _) (x y : _) (s t : _) → look.Post κ a x s → look.Post κ a y t → x.now ≡ y.now
 look_once κ a x y s t p q = p ∙ sym q
 
 pub look_refusal_once : Once look_refusal.Post
-look_refusal_once κ a x y s t p q = p ∙ sym q
+look_refusal_once κ a x y s t p q = told_once x y (p ∙ sym q)
 
 -- ---- traces
 

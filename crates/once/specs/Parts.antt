@@ -7,8 +7,11 @@ use Rattle.serve.specs.Step.{Ranked}
 use Rattle.counts.specs.declared.Counts.{Counts}
 use Rattle.replay.specs.declared.Played.{Played}
 use Rattle.hexadecimal.specs.Laws.{wrote_once}
+use Rattle.refusals.specs.Laws.{told_once}
 use Rattle.once.specs.Once.{Once, OnceLeft, Left}
 use Rattle.ranking.proofs.default_priority.Reads as ranking_default_priority
+use Rattle.refusals.proofs.Refusal.number.Reads as refusals_number
+use Rattle.refusals.proofs.number_in.Reads as refusals_number_in
 use Rattle.ranking.proofs.key.Reads as ranking_key
 use Rattle.ranking.proofs.fixed.Reads as ranking_fixed
 use Rattle.ranking.proofs.keys.Reads as ranking_keys
@@ -17,20 +20,18 @@ use Rattle.words.proofs.read_u16.Reads as words_read_u16
 use Rattle.words.proofs.read_u32.Reads as words_read_u32
 use Rattle.words.proofs.write_u32.Reads as words_write_u32
 use Rattle.words.proofs.write_list.Reads as words_write_list
+use Rattle.words.proofs.read_list.Reads as words_read_list
 use Rattle.layers.proofs.first_sinking.Reads as layers_first_sinking
-use Rattle.layers.proofs.sink_near.Reads as layers_sink_near
+use Rattle.layers.proofs.sink.Reads as layers_sink
 use Rattle.layers.proofs.ask.Reads as layers_ask
 use Rattle.layers.proofs.pages_in.Reads as layers_pages_in
 use Rattle.layers.proofs.alone.Reads as layers_alone
 use Rattle.layers.proofs.bounded.Reads as layers_bounded
 use Rattle.layers.proofs.wide.Reads as layers_wide
 use Rattle.layers.proofs.filled.Reads as layers_filled
-use Rattle.layers.proofs.no_layer_from.Reads as layers_no_layer_from
-use Rattle.layers.proofs.no_number_from.Reads as layers_no_number_from
-use Rattle.layers.proofs.no_page_from.Reads as layers_no_page_from
+use Rattle.layers.proofs.only_from.Reads as layers_only_from
 use Rattle.slots.proofs.find.Reads as slots_find
-use Rattle.slots.proofs.nears.Reads as slots_nears
-use Rattle.slots.proofs.keys.Reads as slots_keys
+use Rattle.slots.proofs.by_slot.Reads as slots_by_slot
 use Rattle.slots.proofs.counts.Reads as slots_counts
 use Rattle.slots.proofs.reach.Reads as slots_reach
 use Rattle.slots.proofs.lowest.Reads as slots_lowest
@@ -39,15 +40,14 @@ use Rattle.selection.proofs.selected.Reads as selection_selected
 use Rattle.begin.proofs.limits_refusal.Reads as begin_limits_refusal
 use Rattle.begin.proofs.refusal.Reads as begin_refusal
 use Rattle.begin.proofs.layers_of.Reads as begin_layers_of
-use Rattle.begin.proofs.priorities_of.Reads as begin_priorities_of
+use Rattle.begin.proofs.padded.Reads as begin_padded
 use Rattle.begin.proofs.default_priorities.Reads as begin_default_priorities
-use Rattle.begin.proofs.slots_of.Reads as begin_slots_of
 use Rattle.image.proofs.refusal.Reads as image_refusal
 use Rattle.image.proofs.layers.Reads as image_layers
 use Rattle.image.proofs.slots.Reads as image_slots
 use Rattle.image.proofs.priorities.Reads as image_priorities
 use Rattle.image.proofs.agree.Reads as image_agree
-use Rattle.image.proofs.write.Reads as image_write
+use Rattle.image.proofs.Parts.write.Reads as image_write
 use Rattle.certify.proofs.tables.Reads as certify_tables
 use Rattle.serve.proofs.step.Reads as serve_step
 use Rattle.counts.proofs.counted.Reads as counts_counted
@@ -56,24 +56,26 @@ use Rattle.counts.proofs.refusal.Reads as counts_refusal
 use Rattle.counts.proofs.fit.Reads as counts_fit
 use Rattle.counts.proofs.none.Reads as counts_none
 use Rattle.run.proofs.Run.in_image.Reads as run_in_image
+use Rattle.run.proofs.Run.write.Reads as run_write
 use Rattle.replay.proofs.play.Reads as replay_play
 use Rattle.replay.proofs.misses.Reads as replay_misses
 use Rattle.text.proofs.write_number.Reads as text_write_number
-use Rattle.text.proofs.write_line.Reads as text_write_line
-use Rattle.text.proofs.write_first_line.Reads as text_write_first_line
-use Rattle.text.proofs.write_last_line.Reads as text_write_last_line
-use Rattle.text.proofs.write_refused.Reads as text_write_refused
-use Rattle.text.proofs.line_length.Reads as text_line_length
-use Rattle.text.proofs.first_line_length.Reads as text_first_line_length
-use Rattle.text.proofs.last_line_length.Reads as text_last_line_length
-use Rattle.text.proofs.refused_length.Reads as text_refused_length
+use Rattle.text.proofs.UntoldTelling.word.Reads as text_untold_word
+use Rattle.text.proofs.UntoldTelling.number.Reads as text_untold_number
+use Rattle.text.proofs.MeasuredTelling.word.Reads as text_measured_word
+use Rattle.text.proofs.MeasuredTelling.number.Reads as text_measured_number
+use Rattle.text.proofs.WrittenTelling.word.Reads as text_written_word
+use Rattle.text.proofs.WrittenTelling.number.Reads as text_written_number
+use Rattle.text.proofs.tell_line.Reads as text_tell_line
+use Rattle.text.proofs.tell_first_line.Reads as text_tell_first_line
+use Rattle.text.proofs.tell_last_line.Reads as text_tell_last_line
+use Rattle.text.proofs.tell_refused.Reads as text_tell_refused
 use Rattle.hexadecimal.proofs.read.Reads as hex_read
 use Rattle.hexadecimal.proofs.write.Reads as hex_write
 use Rattle.fields.proofs.end_of.Reads as fields_end_of
 use Rattle.fields.proofs.words_in.Reads as fields_words_in
 use Rattle.fields.proofs.word.Reads as fields_word
 use Rattle.fields.proofs.first.Reads as fields_first
-use Rattle.fields.proofs.first_numbers.Reads as fields_first_numbers
 use Rattle.fields.proofs.number.Reads as fields_number
 use Rattle.fields.proofs.list.Reads as fields_list
 use Rattle.fields.proofs.bytes.Reads as fields_bytes
@@ -85,8 +87,7 @@ use Rattle.player.proofs.buffer.Reads as player_buffer
 use Rattle.timed.proofs.timed_replay.Reads as timed_timed_replay
 use Rattle.timed.proofs.timed_checked.Reads as timed_timed_checked
 use Rattle.timed.proofs.timed_text.Reads as timed_timed_text
-use Rattle.asked.proofs.byte_room.Reads as asked_byte_room
-use Rattle.asked.proofs.number_room.Reads as asked_number_room
+use Rattle.asked.proofs.room.Reads as asked_room
 use Rattle.asked.proofs.read_number.Reads as asked_read_number
 use Rattle.asked.proofs.read_run.Reads as asked_read_run
 use Rattle.asked.proofs.read_paged.Reads as asked_read_paged
@@ -112,6 +113,14 @@ use Rattle.files.proofs.readimage.Reads as files_readimage
 use Rattle.files.proofs.writeimage.Reads as files_writeimage
 use Rattle.files.proofs.serve_board.Reads as files_serve_board
 use Rattle.kinds.proofs.answer.Reads as kinds_answer
+
+-- ---- refusals
+
+pub refusals_number_once : Once refusals_number.Post
+refusals_number_once κ a x y s t p q = p ∙ sym q
+
+pub refusals_number_in_once : Once refusals_number_in.Post
+refusals_number_in_once κ a x y s t p q = p ∙ sym q
 
 -- ---- the ranking
 
@@ -144,13 +153,17 @@ words_write_u32_once κ a x y s t p q = p ∙ sym q
 pub words_write_list_once : Left words_write_list.Post (λ κ s. s.0.now)
 words_write_list_once κ a x y s t p q = p ∙ sym q
 
+-- into an array of any length
+pub words_read_list_once : (N : _) (fits : _) → Once (words_read_list.Post N fits)
+words_read_list_once N fits κ a x y s t p q = p ∙ sym q
+
 -- ---- layers
 
 pub layers_first_sinking_once : Once layers_first_sinking.Post
 layers_first_sinking_once κ a x y s t p q = p ∙ sym q
 
-pub layers_sink_near_once : Left layers_sink_near.Post (λ κ s. s.0.now)
-layers_sink_near_once κ a x y s t p q = p ∙ sym q
+pub layers_sink_once : Left layers_sink.Post (λ κ s. s.0.now)
+layers_sink_once κ a x y s t p q = p ∙ sym q
 
 pub layers_ask_once : Left layers_ask.Post (λ κ s. s.0.now)
 layers_ask_once κ a x y s t p q = p ∙ sym q
@@ -167,14 +180,11 @@ layers_wide_once κ a x y s t p q = p.0 ∙ sym q.0
 pub layers_filled_once : Once layers_filled.Post
 layers_filled_once κ a x y s t p q = p ∙ sym q
 
-pub layers_no_layer_from_once : Once layers_no_layer_from.Post
-layers_no_layer_from_once κ a x y s t p q = p ∙ sym q
-
-pub layers_no_page_from_once : Once layers_no_page_from.Post
-layers_no_page_from_once κ a x y s t p q = p ∙ sym q
-
-pub layers_no_number_from_once : Once layers_no_number_from.Post
-layers_no_number_from_once κ a x y s t p q = p ∙ sym q
+-- whatever the entries' type is
+pub layers_only_from_once :
+    (T : _) (laws : _) (copy : _) (eq : _) (eq_dict : _) (clone : _) (clone_dict : _) →
+    Once (layers_only_from.Post T laws copy eq eq_dict clone clone_dict)
+layers_only_from_once T laws copy eq eq_dict clone clone_dict κ a x y s t p q = p ∙ sym q
 
 pub layers_alone_once : Once layers_alone.Post
 layers_alone_once κ a x y s t p q = p ∙ sym q
@@ -184,11 +194,10 @@ layers_alone_once κ a x y s t p q = p ∙ sym q
 pub slots_find_once : Once slots_find.Post
 slots_find_once κ a x y s t p q = p ∙ sym q
 
-pub slots_nears_once : Once slots_nears.Post
-slots_nears_once κ a x y s t p q = p ∙ sym q
-
-pub slots_keys_once : Once slots_keys.Post
-slots_keys_once κ a x y s t p q = p ∙ sym q
+-- For entries of any type.
+pub slots_by_slot_once :
+    (entry : _) (laws : _) (copied : _) (clone : _) (dict : _) → Once (slots_by_slot.Post entry laws copied clone dict)
+slots_by_slot_once entry laws copied clone dict κ a x y s t p q = p ∙ sym q
 
 pub slots_counts_once : Once slots_counts.Post
 slots_counts_once κ a x y s t p q = p ∙ sym q
@@ -210,27 +219,25 @@ selection_selected_once κ a x y s t p q = p ∙ sym q
 -- ---- a start
 
 pub begin_limits_refusal_once : Once begin_limits_refusal.Post
-begin_limits_refusal_once κ a x y s t p q = p ∙ sym q
+begin_limits_refusal_once κ a x y s t p q = told_once x y (p ∙ sym q)
 
 pub begin_refusal_once : Once begin_refusal.Post
-begin_refusal_once κ a x y s t p q = p ∙ sym q
+begin_refusal_once κ a x y s t p q = told_once x y (p ∙ sym q)
 
 pub begin_layers_of_once : Once begin_layers_of.Post
 begin_layers_of_once κ a x y s t p q = p ∙ sym q
 
-pub begin_priorities_of_once : Once begin_priorities_of.Post
-begin_priorities_of_once κ a x y s t p q = p ∙ sym q
+-- for an array of any length
+pub begin_padded_once : (N : _) (fits : _) → Once (begin_padded.Post N fits)
+begin_padded_once N fits κ a x y s t p q = p ∙ sym q
 
 pub begin_default_priorities_once : Once begin_default_priorities.Post
 begin_default_priorities_once κ a x y s t p q = p ∙ sym q
 
-pub begin_slots_of_once : Once begin_slots_of.Post
-begin_slots_of_once κ a x y s t p q = p ∙ sym q
-
 -- ---- an image
 
 pub image_refusal_once : Once image_refusal.Post
-image_refusal_once κ a x y s t p q = p ∙ sym q
+image_refusal_once κ a x y s t p q = told_once x y (p ∙ sym q)
 
 pub image_layers_once : Once image_layers.Post
 image_layers_once κ a x y s t p q = p ∙ sym q
@@ -244,7 +251,7 @@ image_priorities_once κ a x y s t p q = p ∙ sym q
 pub image_agree_once : Once image_agree.Post
 image_agree_once κ a x y s t p q = p ∙ sym q
 
-pub image_write_once : Left image_write.Post (λ κ s. s.0.now)
+pub image_write_once : Left image_write.Post (λ κ s. s.1.0.now)
 image_write_once κ a x y s t p q = p ∙ sym q
 
 -- ---- soundness of the tables
@@ -294,7 +301,7 @@ pub counts_fit_once : Once counts_fit.Post
 counts_fit_once κ a x y s t p q = p ∙ sym q
 
 pub counts_refusal_once : Once counts_refusal.Post
-counts_refusal_once κ a x y s t p q = p ∙ sym q
+counts_refusal_once κ a x y s t p q = told_once x y (p ∙ sym q)
 
 pub counts_new_page_once : Once counts_new_page.Post
 counts_new_page_once κ a x y s t p q = p ∙ sym q
@@ -304,13 +311,16 @@ counts_counted_once κ a x y s t p q = p ∙ sym q
 
 -- ---- a run
 
+pub run_write_once : Left run_write.Post (λ κ s. s.1.0.now)
+run_write_once κ a x y s t p q = p ∙ sym q
+
 pub run_in_image_once : Once run_in_image.Post
 run_in_image_once κ a x y s t p q = p ∙ sym q
 
 -- ---- a replay
 
-pub replay_play_once : OnceLeft replay_play.Post (λ κ s. s.1.1.1.1.1.1.0.now)
-replay_play_once κ a x y s t p q =
+pub replay_play_once : (g : _) (l : _) (h : _) (d : _) → OnceLeft (replay_play.Post g l h d) (λ κ s. s.1.1.1.1.0.now)
+replay_play_once g l h d κ a x y s t p q =
     let counts = p.0 ∙ sym q.0 in
     let next = p.1.0 ∙ sym q.1.0 in (
       ap (λ (n : ℕ). played n x.counts) next ∙ ap (played y.next) counts,
@@ -328,29 +338,35 @@ replay_misses_once κ a x y s t p q = p ∙ sym q
 pub text_write_number_once : OnceLeft text_write_number.Post (λ κ s. s.0.now)
 text_write_number_once κ a x y s t p q = (p.0 ∙ sym q.0, p.1 ∙ sym q.1)
 
-pub text_write_line_once : OnceLeft text_write_line.Post (λ κ s. s.0.now)
-text_write_line_once κ a x y s t p q = (p.0 ∙ sym q.0, p.1 ∙ sym q.1)
+pub text_untold_word_once : OnceLeft text_untold_word.Post (λ κ s. s.0.now)
+text_untold_word_once κ a x y s t p q = (p.0 ∙ sym q.0, p.1 ∙ sym q.1)
 
-pub text_write_first_line_once : OnceLeft text_write_first_line.Post (λ κ s. s.0.now)
-text_write_first_line_once κ a x y s t p q = (p.0 ∙ sym q.0, p.1 ∙ sym q.1)
+pub text_untold_number_once : OnceLeft text_untold_number.Post (λ κ s. s.0.now)
+text_untold_number_once κ a x y s t p q = (p.0 ∙ sym q.0, p.1 ∙ sym q.1)
 
-pub text_write_last_line_once : OnceLeft text_write_last_line.Post (λ κ s. s.0.now)
-text_write_last_line_once κ a x y s t p q = (p.0 ∙ sym q.0, p.1 ∙ sym q.1)
+pub text_measured_word_once : OnceLeft text_measured_word.Post (λ κ s. s.0.now)
+text_measured_word_once κ a x y s t p q = (p.0 ∙ sym q.0, p.1 ∙ sym q.1)
 
-pub text_write_refused_once : OnceLeft text_write_refused.Post (λ κ s. s.0.now)
-text_write_refused_once κ a x y s t p q = (p.0 ∙ sym q.0, p.1 ∙ sym q.1)
+pub text_measured_number_once : OnceLeft text_measured_number.Post (λ κ s. s.0.now)
+text_measured_number_once κ a x y s t p q = (p.0 ∙ sym q.0, p.1 ∙ sym q.1)
 
-pub text_line_length_once : Once text_line_length.Post
-text_line_length_once κ a x y s t p q = p ∙ sym q
+pub text_written_word_once : OnceLeft text_written_word.Post (λ κ s. s.0.now)
+text_written_word_once κ a x y s t p q = (p.0 ∙ sym q.0, p.1 ∙ sym q.1)
 
-pub text_first_line_length_once : Once text_first_line_length.Post
-text_first_line_length_once κ a x y s t p q = p ∙ sym q
+pub text_written_number_once : OnceLeft text_written_number.Post (λ κ s. s.0.now)
+text_written_number_once κ a x y s t p q = (p.0 ∙ sym q.0, p.1 ∙ sym q.1)
 
-pub text_last_line_length_once : Once text_last_line_length.Post
-text_last_line_length_once κ a x y s t p q = p ∙ sym q
+pub text_tell_line_once : (g : _) (l : _) (h : _) (d : _) → OnceLeft (text_tell_line.Post g l h d) (λ κ s. s.0.now)
+text_tell_line_once g l h d κ a x y s t p q = (p.0 ∙ sym q.0, p.1 ∙ sym q.1)
 
-pub text_refused_length_once : Once text_refused_length.Post
-text_refused_length_once κ a x y s t p q = p ∙ sym q
+pub text_tell_first_line_once : (g : _) (l : _) (h : _) (d : _) → OnceLeft (text_tell_first_line.Post g l h d) (λ κ s. s.0.now)
+text_tell_first_line_once g l h d κ a x y s t p q = (p.0 ∙ sym q.0, p.1 ∙ sym q.1)
+
+pub text_tell_last_line_once : (g : _) (l : _) (h : _) (d : _) → OnceLeft (text_tell_last_line.Post g l h d) (λ κ s. s.0.now)
+text_tell_last_line_once g l h d κ a x y s t p q = (p.0 ∙ sym q.0, p.1 ∙ sym q.1)
+
+pub text_tell_refused_once : (g : _) (l : _) (h : _) (d : _) → OnceLeft (text_tell_refused.Post g l h d) (λ κ s. s.0.now)
+text_tell_refused_once g l h d κ a x y s t p q = (p.0 ∙ sym q.0, p.1 ∙ sym q.1)
 
 -- ---- hexadecimal digits
 
@@ -372,13 +388,10 @@ pub fields_word_once :
     (κ : _) (a : _) (x y : _) (s t : _) → fields_word.Post κ a x s → fields_word.Post κ a y t → x.now ≡ y.now
 fields_word_once κ a x y s t p q = p ∙ sym q
 
+-- for entries of any type
 pub fields_first_once :
-    (κ : _) (a : _) (x y : _) (s t : _) → fields_first.Post κ a x s → fields_first.Post κ a y t → x.now ≡ y.now
-fields_first_once κ a x y s t p q = p ∙ sym q
-
-pub fields_first_numbers_once :
-    (κ : _) (a : _) (x y : _) (s t : _) → fields_first_numbers.Post κ a x s → fields_first_numbers.Post κ a y t → x.now ≡ y.now
-fields_first_numbers_once κ a x y s t p q = p ∙ sym q
+    (T : _) (L : _) (κ : _) (a : _) (x y : _) (s t : _) → fields_first.Post T L κ a x s → fields_first.Post T L κ a y t → x.now ≡ y.now
+fields_first_once T L κ a x y s t p q = p ∙ sym q
 
 pub fields_number_once : Once fields_number.Post
 fields_number_once κ a x y s t p q = p ∙ sym q
@@ -419,11 +432,13 @@ timed_timed_text_once κ a x y s t p q = (p.0 ∙ sym q.0, p.1 ∙ sym q.1)
 
 -- ---- what a line asks
 
-pub asked_byte_room_once : Once asked_byte_room.Post
-asked_byte_room_once κ a x y s t p q = p.0 ∙ sym q.0
-
-pub asked_number_room_once : Once asked_number_room.Post
-asked_number_room_once κ a x y s t p q = p.0 ∙ sym q.0
+-- for entries of any type
+pub asked_room_once :
+    (T : _) (L : _) (M : _) (N : _) (K : _) (κ : _) (a : _) (x y : _) (s t : _) →
+    asked_room.Post T L M N K κ a x s →
+    asked_room.Post T L M N K κ a y t →
+    x ≡ y
+asked_room_once T L M N K κ a x y s t p q = p.0 ∙ sym q.0
 
 pub asked_read_number_once : Once asked_read_number.Post
 asked_read_number_once κ a x y s t p q = p ∙ sym q

@@ -1,7 +1,7 @@
 // Reads a trace file from standard input and prints what becomes of its requests.
 #![tactic(auto)]
 
-ghost use Rattle.std.specs.Prelude.{◌≡◌, length};
+ghost use Rattle.std.specs.Prelude.{◌≡◌, ◌≤◌, length, IfOk};
 
 use std::io;
 use std::io::Read;
@@ -11,7 +11,7 @@ fn main(rt: HostRuntime) -> io::Result<()> {
     let mut file = file_buffer();
     let got = read_full(&mut rt.stdin(), &mut file)?;
     let mut out = player::buffer();
-    let length = answer_of(&file, got, &mut out);
+    let length = player::answer(&file[..got], &mut out);
     print(&rt, &out, length)
 }
 
@@ -22,7 +22,10 @@ fn file_buffer() -> [u8; 65536]
 }
 
 // Reads until the buffer is full or the input ends, and answers how many bytes it put at the buffer's start.
-fn read_full<R: Read>(reader: &mut R, file: &mut [u8]) -> io::Result<usize> {
+// Counted by a `while`: the library's read_exact fails where the input is shorter, and its read_to_end wants a buffer that allocates.
+fn read_full<R: Read>(reader: &mut R, file: &mut [u8]) -> io::Result<usize>
+    ensures { IfOk result (λ got. got ≤ length file.new) }
+{
     let mut got = 0;
     while got < file.len() {
         let n = reader.read(&mut file[got..])?;
@@ -32,14 +35,6 @@ fn read_full<R: Read>(reader: &mut R, file: &mut [u8]) -> io::Result<usize> {
         got += n;
     }
     Ok(got)
-}
-
-// The answer of the first bytes of a buffer.
-fn answer_of<'a>(file: &'a [u8], got: usize, out: &'a mut [u8]) -> usize {
-    if file.len() < got {
-        return 0;
-    }
-    player::answer(&file[..got], out)
 }
 
 // All of it in one piece.

@@ -2,15 +2,14 @@
 #![tactic(auto)]
 
 ghost use Rattle.std.specs.Prelude.{◌≡◌, ◌+◌, ◌≤◌, length, replicate};
-ghost use Rattle.words.specs.Words.{put};
 ghost use Rattle.run.specs.Sound.{Sound};
 ghost use Rattle.paging.specs.Sets.{◌≤?◌};
-ghost use Rattle.text.specs.Text.{last_line};
 ghost use Rattle.player.specs.Answer.{lines, answer_bytes, answer_length, answered};
+ghost use Rattle.text.specs.Told.{told_length, told_room, told_bytes};
 ghost use Rattle.trace.specs.Reading.{asked};
 
-use counts::Counts;
 use run::Run;
+use text::{Measured, Telling, Written};
 
 // A buffer of this size has room for every answer.
 pub const ROOM: usize = 3000208;
@@ -23,8 +22,8 @@ pub fn buffer() -> [u8; 3000208]
     [0; 3000208]
 }
 
-// Writes the lines of requests and the last line at an offset, and answers the offset behind them.
-fn write_lines<'a>(
+// Tells the lines of requests and the last line at an offset, and answers the offset behind them.
+fn tell_lines<'a, T: Telling>(
     file: &'a [u8],
     offset: usize,
     requests: usize,
@@ -32,67 +31,57 @@ fn write_lines<'a>(
     out: &'a mut [u8],
     at: usize,
 ) -> usize
-    requires { Sound start × (at + length (lines start (asked file.now offset requests)) ≤ length out.old) }
-    ensures offset { result ≡ at + length (lines start (asked file.now offset requests)) }
-    ensures text { out.new ≡ put out.old at (lines start (asked file.now offset requests)) }
+    requires { Sound start × (at + told_length T.told (lines start (asked file.now offset requests)) ≤ told_room T.told T.written (length out.old)) }
+    ensures offset { result ≡ at + told_length T.told (lines start (asked file.now offset requests)) }
+    ensures text { out.new ≡ told_bytes T.told T.written out.old at (lines start (asked file.now offset requests)) }
 {
-    let played = replay::play(file, offset, requests, start, true, true, out, at);
+    let played = replay::play::<T>(file, offset, requests, start, out, at);
     let counts = played.counts;
-    text::write_last_line(
+    text::tell_last_line::<T>(
         out,
         played.next,
-        counts.served as u64,
-        counts.hits as u64,
-        counts.misses as u64,
-        counts.best as u64,
+        u64::from(counts.served),
+        u64::from(counts.hits),
+        u64::from(counts.misses),
+        u64::from(counts.best),
     )
 }
 
-// How long the last line is.
-fn last_length(counts: Counts) -> usize
-    ensures { result ≡ length (last_line counts.served counts.hits counts.misses counts.best) }
-{
-    let served = counts.served as u64;
-    let hits = counts.hits as u64;
-    let misses = counts.misses as u64;
-    let best = counts.best as u64;
-    text::last_line_length(served, hits, misses, best)
-}
-
-// How long the lines of requests and the last line are, by playing the requests with nothing written.
-fn lines_length(file: &[u8], offset: usize, requests: usize, start: Run) -> usize
-    requires { Sound start × (requests ≤ 30000) }
-    ensures { result ≡ length (lines start (asked file.now offset requests)) }
-{
-    let mut none = [0; 1];
-    let played = replay::play(file, offset, requests, start, true, false, &mut none, 0);
-    let counts = played.counts;
-    played.next + last_length(counts)
-}
-
-// How long the answer of a file is.
-fn size_of_answer(file: &[u8]) -> usize
-    ensures { result ≡ length (answer_bytes file.now) }
+// Tells the answer of a file at the start of a buffer, and answers the offset behind it.
+fn tell_answer<'a, T: Telling>(file: &'a [u8], out: &'a mut [u8]) -> usize
+    requires { 0 + told_length T.told (answer_bytes file.now) ≤ told_room T.told T.written (length out.old) }
+    ensures offset { result ≡ 0 + told_length T.told (answer_bytes file.now) }
+    ensures text { out.new ≡ told_bytes T.told T.written out.old 0 (answer_bytes file.now) }
 {
     let traced = trace::read(file);
-    let refusal = traced.refusal;
-    if refusal != 0 {
-        return text::refused_length(refusal as u64);
+    if let Some(refusal) = traced.refusal {
+        return text::tell_refused::<T>(out, 0, u64::from(refusal.number()));
     }
     let run = traced.run;
     let requests = traced.requests;
-    let first = text::first_line_length(run.pages as u64, run.slots as u64, requests as u64);
-    first + lines_length(file, traced.offset, requests, run)
+    let next = text::tell_first_line::<T>(
+        out,
+        0,
+        run.pages as u64,
+        run.slots as u64,
+        requests as u64,
+    );
+    tell_lines::<T>(file, traced.offset, requests, run, out, next)
+}
+
+// How long the answer of a file is, by playing its requests with nothing written.
+fn size_of_answer(file: &[u8]) -> usize
+    ensures { result ≡ length (answer_bytes file.now) }
+{
+    let mut none = [0; 1];
+    tell_answer::<Measured>(file, &mut none)
 }
 
 // Whether the answer of a file fits in so many bytes. It is measured only where they are too few for the longest answer.
 fn fits(file: &[u8], room: usize) -> bool
     ensures { result ≡ (length (answer_bytes file.now) ≤? room) }
 {
-    if ROOM <= room {
-        return true;
-    }
-    size_of_answer(file) <= room
+    ROOM <= room || size_of_answer(file) <= room
 }
 
 // Writes the answer of a trace file to the start of a buffer and answers its length: 0, and nothing written, where it does not fit.
@@ -103,13 +92,5 @@ pub fn answer(file: &[u8], out: &mut [u8]) -> usize
     if !fits(file, out.len()) {
         return 0;
     }
-    let traced = trace::read(file);
-    let refusal = traced.refusal;
-    if refusal != 0 {
-        return text::write_refused(out, 0, refusal as u64);
-    }
-    let run = traced.run;
-    let requests = traced.requests;
-    let next = text::write_first_line(out, 0, run.pages as u64, run.slots as u64, requests as u64);
-    write_lines(file, traced.offset, requests, run, out, next)
+    tell_answer::<Written>(file, out)
 }

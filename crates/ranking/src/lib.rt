@@ -95,7 +95,7 @@ pub fn key(priority: u16, page: u16) -> Key
     requires { page < 1024 }
     ensures { result ≡ key_of priority page }
 {
-    priority as Key * 1024 + (1023 - page as Key)
+    Key::from(priority) * 1024 + (1023 - Key::from(page))
 }
 
 // The page of a key.
@@ -110,13 +110,9 @@ pub fn keys(priority: &[u16; 1024]) -> [Key; 1024]
     ensures table { result ≡ page_keys priority.now }
     ensures narrow { Narrow priority.now }
 {
-    // A slice knows that its entries are 16 bits wide.
-    let numbers: &[u16] = priority;
     let mut keys: [Key; 1024] = [0; 1024];
-    let mut q = 0;
-    while q < 1024 {
-        keys[q] = key(numbers[q], q as u16);
-        q += 1;
+    for q in 0..1024 {
+        keys[q] = key(priority[q], q as u16);
     }
     keys
 }

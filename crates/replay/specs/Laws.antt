@@ -1,20 +1,20 @@
 -- A turn is a request, and a loop of turns is the requests one after the other, told as they come. Assumes nothing.
-use Rattle.std.specs.Prelude.{Bool, true, false, List, [], ◌++◌, ◌≡◌, refl, length, set, take, drop, nat_eq, slice_index_or}
-use Rattle.std.proofs.Common.{⊎_elim, subst, ◌∙◌, length-set, length-append, length-drop, drop-drop}
+use Rattle.std.specs.Prelude.{Bool, List, [], ◌++◌, ◌≡◌, refl, length, set, take, drop, nat_eq, slice_index_or}
+use Rattle.std.proofs.Common.{⊎_elim, subst, ◌∙◌, length-set, length-drop, drop-drop}
 use Rattle.std.proofs.Math.Path.{sym, ap}
 use Prim.Native.Nat.{ℕ, suc, ◌+◌, ◌*◌, ◌-◌, ◌≤◌, ◌<◌, min}
 use native.Mathlib.Omega.{arith}
 use Rattle.std.proofs.Math.Seq.{take-length}
 use Rattle.paging.specs.Sets.{bit}
-use Rattle.paging.specs.Layers.{next}
 use Rattle.paging.specs.Tests.{le_or_lt}
 use Rattle.paging.specs.Tables.{entry_any, fill_more, table_length, listed_same}
-use Rattle.words.specs.Words.{word_at, put}
-use Rattle.words.specs.Laws.{put_put, put_length, put_none}
+use Rattle.words.specs.Words.{word_at}
 use Rattle.ranking.specs.Key.{key_of, key_at, page_keys}
 use Rattle.ranking.proofs.KeyLaws.{keys_entry}
 use Rattle.slots.specs.Slots.{no_page, keys_of}
 use Rattle.serve.specs.declared.Event.{Event}
+use Rattle.refusals.specs.declared.Refusal.{Refusal}
+use Rattle.refusals.specs.Numbers.{number}
 use Rattle.serve.specs.declared.Event.TheVariants.{Refused}
 use Rattle.serve.specs.Step.{Ready, Steps}
 use Rattle.run.specs.declared.Run.{Run}
@@ -26,7 +26,7 @@ use Rattle.run.specs.Cached.{slot_of}
 use Rattle.run.specs.Request.{requested, next_run, counted}
 use Rattle.run.specs.History.{run_after}
 use Rattle.run.specs.Requesting.{request_refusal}
-use Rattle.run.proofs.Requesting.{refusal_of_sound, refuse_page, refuse_served, refuse_none, requested_refused, requested_served}
+use Rattle.run.proofs.Requesting.{refusal_of_sound, refuse_page, refuse_served, refuse_none, requested_refused, requested_served, refused_run}
 use Rattle.run.specs.Serving.{RunKeys}
 use Rattle.run.proofs.Serving.{run_ready, run_ranked, step_taken}
 use Rattle.run.proofs.Theorems.{hit_or_miss, request_is_sound}
@@ -34,12 +34,14 @@ use Rattle.trace.specs.Layout.{request_word}
 use Rattle.trace.specs.Reading.{asked}
 use Rattle.trace.proofs.Reading.{asked_next, asked_last, request_past, request_there}
 use Rattle.text.specs.Text.{event_line}
+use Rattle.text.specs.Told.{told_length, told_room, told_bytes}
+use Rattle.text.specs.Telling.{Telling, next_room, more, done}
 use Rattle.counts.specs.declared.Counts.{Counts}
 use Rattle.counts.specs.declared.Turn.{Turn}
 use Rattle.counts.specs.Counts.{most_served, page_refusal, turned}
 use Rattle.counts.specs.Laws.{counts_room, number_allowed}
 use Rattle.replay.specs.Replay.{state, outcome, Seated}
-use Rattle.replay.specs.Told.{event_lines, told_length, told_room, told_bytes}
+use Rattle.replay.specs.Told.{event_lines}
 
 module _ (N k : ℕ) (c : Counts) (layer priority held : List ℕ) (w : Sound (state N k c layer priority held)) (p : ℕ) where
   abbrev r : Run
@@ -47,12 +49,12 @@ module _ (N k : ℕ) (c : Counts) (layer priority held : List ℕ) (w : Sound (s
 
   -- a page that is not below N, or a run that has served all it may
   pub refused_turn :
-      (n : ℕ) → n ≡ page_refusal N c.served p → (n ≡ 0 → ⊥) → outcome N k (record { event = Refused n; best = 0; counts = c }) layer priority held ≡ requested r p
-  refused_turn n e ne = requested_refused r p n (refusal_of_sound r p ((sound_iff r).1 w) n e) ne
+      (n : Refusal) → number n ≡ page_refusal N c.served p → outcome N k (record { event = Refused n; best = 0; counts = c }) layer priority held ≡ requested r p
+  refused_turn n e = requested_refused r p n (refusal_of_sound r p ((sound_iff r).1 w) (number n) e)
 
-  module _ (n : ℕ) (told : n ≡ page_refusal N c.served p) (z : n ≡ 0) where
+  module _ (n : ℕ) (told_is : n ≡ page_refusal N c.served p) (z : n ≡ 0) where
     allowed : (p < N) × (c.served < most_served)
-    allowed = number_allowed N c.served p (sym told ∙ z)
+    allowed = number_allowed N c.served p (sym told_is ∙ z)
 
     -- no count is at its end
     pub turn_counts :
@@ -130,17 +132,17 @@ counted_long r p hit miss held l h =
 request_long : (r : Run) (p : ℕ) → Sound r → Long r → Long (requested r p).run
 request_long r p w long = ⊎_elim past below (le_or_lt r.pages p)
   where
-    refused_long : (n : ℕ) → n ≡ request_refusal r p → (n ≡ 0 → ⊥) → Long (requested r p).run
-    refused_long n e ne = subst Long (ap (λ (x : Served). x.run) (requested_refused r p n e ne)) long
+    refused_long : (request_refusal r p ≡ 0 → ⊥) → Long (requested r p).run
+    refused_long ne = subst Long (sym (refused_run r p ne)) long
 
     past : r.pages ≤ p → Long (requested r p).run
-    past h = refused_long 8 (refuse_page r p ((sound_iff r).1 w) h) (λ z. omega arith)
+    past h = refused_long (λ z. omega (arith, refuse_page r p ((sound_iff r).1 w) h))
 
     below : p < r.pages → Long (requested r p).run
     below l = ⊎_elim full room (le_or_lt most_served r.counts.served)
       where
         full : most_served ≤ r.counts.served → Long (requested r p).run
-        full h = refused_long 9 (refuse_served r p ((sound_iff r).1 w) l h) (λ z. omega arith)
+        full h = refused_long (λ z. omega (arith, refuse_served r p ((sound_iff r).1 w) l h))
 
         room : r.counts.served < most_served → Long (requested r p).run
         room h =
@@ -221,90 +223,14 @@ part_asked b offset from n e =
     let whole : take (length b - from) (drop from b) ≡ drop from b = rw (← length-drop from b) (take-length (drop from b)) in
     rw whole (listed_same n (request_word (drop from b) 0) (request_word b offset) (λ i l. part_request b offset from i e))
 
--- ---- what is told, a piece behind another
-
-told_none : (t : Bool) → told_length t [] ≡ 0
-unfolding told_length
-told_none true = refl
-told_none false = refl
-
-told_more : (t : Bool) (a b : List ℕ) → told_length t (a ++ b) ≡ told_length t a + told_length t b
-unfolding told_length
-told_more true a b = length-append a b
-told_more false a b = refl
-
-told_nothing : (t w : Bool) (out : List ℕ) (at : ℕ) → told_bytes t w out at [] ≡ out
-unfolding told_bytes
-told_nothing true true out at = put_none out at
-told_nothing true false out at = refl
-told_nothing false w out at = refl
-
-told_size :
-    (t w : Bool) (out : List ℕ) (at : ℕ) (a : List ℕ) →
-    at + told_length t a ≤ told_room t w (length out) →
-    length (told_bytes t w out at a) ≡ length out
-unfolding told_length told_room told_bytes
-told_size true true out at a h = put_length out at a h
-told_size true false out at a h = refl
-told_size false w out at a h = refl
-
-told_then :
-    (t w : Bool) (out : List ℕ) (at : ℕ) (a b : List ℕ) →
-    at + told_length t a ≤ told_room t w (length out) →
-    told_bytes t w (told_bytes t w out at a) (at + told_length t a) b ≡ told_bytes t w out at (a ++ b)
-unfolding told_length told_room told_bytes
-told_then true true out at a b h = put_put out at a b h
-told_then true false out at a b h = refl
-told_then false w out at a b h = refl
-
--- ---- telling, by what is told
-
-module _ (t w : Bool) (out : List ℕ) (at : ℕ) (a : List ℕ) where
-  abbrev Room : Type 0
-  Room = at + told_length t a ≤ told_room t w (length out)
-
-  abbrev Told : ℕ → List ℕ → Type 0
-  Told n after = (n ≡ at + told_length t a) × (after ≡ told_bytes t w out at a)
-
-  pub tell_none : t ≡ false → Told at out
-  unfolding told_length told_bytes
-  tell_none e = rw e (omega arith, refl)
-
-  module _ (t_is : t ≡ true) where
-    pub write_room : w ≡ true → Room → at + length a ≤ length out
-    unfolding told_length told_room
-    write_room e h = rw (t_is, e) at h
-
-    pub tell_written : w ≡ true → (n : ℕ) (after : List ℕ) → n ≡ at + length a → after ≡ put out at a → Told n after
-    unfolding told_length told_bytes
-    tell_written e n after g h = rw (t_is, e) (g, h)
-
-    pub count_room : w ≡ false → Room → at + length a ≤ 18446744073709551615
-    unfolding told_length told_room
-    count_room e h = rw (t_is, e) at h
-
-    pub tell_counted : w ≡ false → (n : ℕ) → n ≡ length a → Told (at + n) out
-    unfolding told_length told_bytes
-    tell_counted e n g = rw (t_is, e, g) (refl, refl)
-
 -- ---- a loop of turns that tells of them
-
--- Before request i of qs: the offset in hand, moved by what is left, comes to where the whole ends; what is left, told behind what is
--- told already, makes the whole.
-pub record Telling (start : Run) (qs : List ℕ) (t w : Bool) (before : List ℕ) (at : ℕ) (out : List ℕ) (r : Run) (next i : ℕ) : Type 0 where
-  pub ends : next + told_length t (event_lines r (drop i qs)) ≡ at + told_length t (event_lines start qs)
-  pub fits : at + told_length t (event_lines start qs) ≤ told_room t w (length before)
-  pub size : length out ≡ length before
-  pub text : told_bytes t w out next (event_lines r (drop i qs)) ≡ told_bytes t w before at (event_lines start qs)
 
 module _ (start : Run) (b : List ℕ) (offset n : ℕ) (t w : Bool) (before : List ℕ) (at : ℕ) where
   abbrev all : List ℕ
   all = asked b offset n
 
-  pub telling_first : at + told_length t (event_lines start all) ≤ told_room t w (length before) → Telling start all t w before at before start at 0
-  telling_first h = record { ends = refl; fits = h; size = refl; text = refl }
-
-  module _ (out : List ℕ) (r : Run) (next i : ℕ) (now_is : Telling start all t w before at out r next i) where
+  -- Before request i, what is left to tell is the lines of the requests from it on.
+  module _ (out : List ℕ) (r : Run) (next i : ℕ) (now_is : Telling t w before at (event_lines start all) out next (event_lines r (drop i all))) where
     module _ (p : ℕ) (s : Served) (l : i < n) (e : p ≡ request_word b offset i) (f : s ≡ requested r p) where
       abbrev line : List ℕ
       line = event_line p s.event s.best
@@ -316,32 +242,25 @@ module _ (start : Run) (b : List ℕ) (offset n : ℕ) (t w : Bool) (before : Li
       unfolding event_lines
       split = rw (f, e, asked_next b offset n i l)
 
-      within : next + told_length t line + told_length t later ≡ at + told_length t (event_lines start all)
-      within = omega (arith, told_more t line later, (rw split at now_is.ends))
+      turn : Telling t w before at (event_lines start all) out next (line ++ later)
+      turn = subst (Telling t w before at (event_lines start all) out next) split now_is
 
       pub line_fits : next + told_length t (event_line p s.event s.best) ≤ told_room t w (length out)
-      line_fits = rw now_is.size (omega (arith, within, now_is.fits))
+      line_fits = next_room line later turn
 
       pub telling_next :
           (after : List ℕ) (then : ℕ) →
           then ≡ next + told_length t (event_line p s.event s.best) →
           after ≡ told_bytes t w out next (event_line p s.event s.best) →
-          Telling start all t w before at after s.run then (i + 1)
+          Telling t w before at (event_lines start all) after then (event_lines s.run (drop (i + 1) all))
       telling_next after then g h =
           let one : i + 1 ≡ suc i = omega arith in
-          rw one
-          (record {
-            ends = omega (arith, within);
-            fits = now_is.fits;
-            size = ap length h ∙ told_size t w out next line line_fits ∙ now_is.size;
-            text = rw (h, g) (told_then t w out next line later line_fits ∙ (rw split at now_is.text));
-          })
+          rw one (more line later turn g h)
 
     pub telling_last :
-        i ≤ n → n ≤ i → (next ≡ at + told_length t (event_lines start all)) × (out ≡ told_bytes t w before at (event_lines start all))
+        i ≡ n → (next ≡ at + told_length t (event_lines start all)) × (out ≡ told_bytes t w before at (event_lines start all))
     unfolding event_lines
-    telling_last h l =
-        let end : i ≡ n = omega arith in
-        let ends = rw (end, asked_last b offset n) at now_is.ends in
-        let text = rw (end, asked_last b offset n) at now_is.text in
-        (omega (arith, told_none t, ends), sym (told_nothing t w out next) ∙ text)
+    telling_last e = done (subst (Telling t w before at (event_lines start all) out next) none now_is)
+      where
+        none : event_lines r (drop i all) ≡ []
+        none = rw (e, asked_last b offset n)

@@ -2,21 +2,22 @@
 // soundness or copies the run. Assumes nothing.
 #![tactic(auto)]
 
-ghost use Rattle.std.specs.Prelude.{◌≡◌, ℕ, ◌+◌, ◌≤◌, ◌<◌, min, length, slice_index_or};
+ghost use Rattle.std.specs.Prelude.{◌≡◌, ℕ, ◌+◌, ◌≤◌, ◌<◌, length, slice_index_or};
 ghost use Rattle.ranking.specs.Key.{Narrow, key_at, page_keys};
 ghost use Rattle.slots.specs.Slots.{no_page, keys_of};
 ghost use Rattle.run.specs.Sound.{Sound};
 ghost use Rattle.run.specs.Request.{requested};
 ghost use Rattle.run.specs.History.{run_after};
 ghost use Rattle.trace.specs.Reading.{asked};
-ghost use Rattle.text.specs.Text.{event_line};
+ghost use Rattle.text.specs.Told.{told_length, told_room, told_bytes};
 ghost use Rattle.replay.specs.Replay.{state, outcome, Seated};
-ghost use Rattle.replay.specs.Told.{event_lines, told_length, told_room, told_bytes};
+ghost use Rattle.replay.specs.Told.{event_lines};
 
 use counts::{Counts, Turn};
 use ranking::Key;
 use run::Run;
 use serve::Event;
+use text::{Telling, Untold};
 
 // What requests come to: the offset behind what is told of them, and the counts after them.
 #[derive(Clone, Copy)]
@@ -25,8 +26,8 @@ pub struct Played {
     pub counts: Counts,
 }
 
-// By slots, the key of the page in each, and that the priorities are as narrow as keys ask. (That this is one loop, and not one over
-// all pages and one over the slots, keeps the loops of `play` so few that the compiler makes one of them for each way of telling.)
+// By slots, the key of the page in each, and that the priorities are as narrow as keys ask: one loop, and not one over all pages and
+// one over the slots.
 fn seat_keys<'a>(priority: &'a [u16; 1024], held: &'a [u16; 64], slots: usize) -> [Key; 64]
     requires { (slots ≤ 64) × ((s : ℕ) → s < slots → slice_index_or held.now s no_page < 1024) }
     ensures table { result ≡ keys_of (key_at (page_keys priority.now)) held.now slots }
@@ -36,16 +37,15 @@ fn seat_keys<'a>(priority: &'a [u16; 1024], held: &'a [u16; 64], slots: usize) -
     let numbers: &[u16] = priority;
     let entries: &[u16] = held;
     let mut keys: [Key; 64] = [0; 64];
-    let mut s = 0;
-    while s < slots {
+    for s in 0..slots {
         let page = entries[s];
         keys[s] = ranking::key(numbers[page as usize], page);
-        s += 1;
     }
     keys
 }
 
-// One request of a page, any 16-bit number.
+// One request of a page, any 16-bit number. Its tables stay parameters: as a struct with this as its method, which proves too, a sound
+// step of a calm trace took 1.07 of its time.
 fn ask<'a>(
     layer: &'a mut [u8; 1024],
     priority: &'a [u16; 1024],
@@ -63,10 +63,10 @@ fn ask<'a>(
     ensures nears { Seated slots layer.new priority.now held.new near.new keys.new }
 {
     let p = page as usize;
-    let number = counts::refusal(pages, counts.served, p, Run::MAX_SERVED);
-    if number != 0 {
+    let tested = counts::refusal(pages, counts.served, p, Run::MAX_SERVED);
+    if let Err(refusal) = tested {
         return Turn {
-            event: Event::Refused { number },
+            event: Event::Refused(refusal),
             best: 0,
             counts,
         };
@@ -77,52 +77,22 @@ fn ask<'a>(
     counts::counted(counts, event, new)
 }
 
-// An offset, or where what it points into ends.
-fn within(offset: usize, size: usize) -> usize
-    ensures { result ≡ min offset size }
-{
-    if size < offset {
-        return size;
-    }
-    offset
-}
-
-// Tells of a request at an offset, and answers the offset behind that.
-fn tell(told: bool, written: bool, out: &mut [u8], at: usize, asked: u16, turn: Turn) -> usize
-    requires { at + told_length told (event_line asked turn.event turn.best) ≤ told_room told written (length out.old) }
-    ensures offset { result ≡ at + told_length told (event_line asked turn.event turn.best) }
-    ensures text { out.new ≡ told_bytes told written out.old at (event_line asked turn.event turn.best) }
-{
-    if !told {
-        return at;
-    }
-    let page = asked as u64;
-    let event = turn.event;
-    let best = turn.best as u64;
-    if written {
-        return text::write_line(out, at, page, event, best);
-    }
-    at + text::line_length(page, event, best)
-}
-
 // Plays the requests that begin at an offset of a file. Where they are told, the offset `at` moves by the length of their lines;
-// where what is told is written, the lines stand in the buffer.
-pub fn play<'a>(
+// where what is told is written, the lines stand in the buffer. The way of telling is a type, so that the compiler makes a loop of each.
+pub fn play<'a, T: Telling>(
     file: &'a [u8],
     offset: usize,
     requests: usize,
     start: Run,
-    told: bool,
-    written: bool,
     out: &'a mut [u8],
     at: usize,
 ) -> Played
-    requires { Sound start × (at + told_length told (event_lines start (asked file.now offset requests)) ≤ told_room told written (length out.old)) }
+    requires { Sound start × (at + told_length T.told (event_lines start (asked file.now offset requests)) ≤ told_room T.told T.written (length out.old)) }
     ensures counts { result.counts ≡ (run_after start (asked file.now offset requests)).counts }
-    ensures offset { result.next ≡ at + told_length told (event_lines start (asked file.now offset requests)) }
-    ensures text { out.new ≡ told_bytes told written out.old at (event_lines start (asked file.now offset requests)) }
+    ensures offset { result.next ≡ at + told_length T.told (event_lines start (asked file.now offset requests)) }
+    ensures text { out.new ≡ told_bytes T.told T.written out.old at (event_lines start (asked file.now offset requests)) }
 {
-    let from = within(offset, file.len());
+    let from = offset.min(file.len());
     let words = &file[from..];
     let pages = start.pages;
     let slots = start.slots;
@@ -130,19 +100,17 @@ pub fn play<'a>(
     let priority = start.ranks.priority;
     let mut layer = start.layer;
     let mut held = start.held;
-    let mut near = slots::nears(&layer, &held, slots);
+    let mut near = slots::by_slot(&layer, &held, slots, 0);
     let mut keys = seat_keys(&priority, &held, slots);
     let mut counts = start.counts;
     let mut next = at;
-    let mut i = 0;
-    while i < requests {
+    for i in 0..requests {
         let page = trace::request_at(words, 0, i);
         let turn = ask(
             &mut layer, &priority, &mut held, &mut near, &mut keys, pages, k, page, counts,
         );
-        next = tell(told, written, out, next, page, turn);
+        next = text::tell_line::<T>(out, next, u64::from(page), turn.event, u64::from(turn.best));
         counts = turn.counts;
-        i += 1;
     }
     Played { next, counts }
 }
@@ -153,6 +121,6 @@ pub fn misses(file: &[u8], offset: usize, requests: usize, start: Run) -> u32
     ensures { result ≡ (run_after start (asked file.now offset requests)).counts.misses }
 {
     let mut none = [0; 1];
-    let played = play(file, offset, requests, start, false, false, &mut none, 0);
+    let played = play::<Untold>(file, offset, requests, start, &mut none, 0);
     played.counts.misses
 }

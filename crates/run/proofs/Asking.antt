@@ -1,6 +1,7 @@
 -- The questions as the code takes them: the refusals first, then the answer. Assumes nothing.
 use Rattle.std.proofs.Math.Bool.{Bool}
-use Rattle.std.specs.Prelude.{true, false, List, ◌⊎◌, ◌≡◌, ℕ, ◌≤◌, ◌<◌, replicate, nat_lt}
+use Rattle.std.specs.Prelude.{true, false, List, ◌⊎◌, ◌≡◌, ℕ, ◌≤◌, ◌<◌, replicate, nat_lt, None}
+use Rattle.refusals.specs.Numbers.{given}
 use Rattle.std.proofs.Common.{inl, inr, ◌∙◌, arith}
 use Rattle.std.proofs.Math.Path.{sym}
 use borrow.Author.Tests.{lt-ltb, le-ltb, ltb-true, ne_eqb}
@@ -48,16 +49,16 @@ module _ (r : Run) (p : ℕ) where
       go (inl a) (inl b) = ((sound_iff r).0 a, ltb-true p r.pages b)
 
   module _ (n : ℕ) (e : n ≡ refusal r p) where
-    pub layer_refused : (n ≡ 0 → ⊥) → ◌≡◌ {A = LayerAnswer} (record { layer = 0; refusal = n }) (layer_answer r p)
+    pub layer_refused : (n ≡ 0 → ⊥) → ◌≡◌ {A = LayerAnswer} (record { layer = 0; refusal = given n }) (layer_answer r p)
     unfolding layer_answer
     layer_refused ne = rw (ne_eqb (refusal r p) 0 (λ z. ne (e ∙ z)), e)
 
-    pub layer_told : n ≡ 0 → ◌≡◌ {A = LayerAnswer} (record { layer = layer r p; refusal = 0 }) (layer_answer r p)
+    pub layer_told : n ≡ 0 → ◌≡◌ {A = LayerAnswer} (record { layer = layer r p; refusal = None }) (layer_answer r p)
     unfolding layer_answer
     layer_told z = let none : refusal r p ≡ 0 = sym e ∙ z in rw none
 
     pub certain_refused :
-        (n ≡ 0 → ⊥) → ◌≡◌ {A = CertainAnswer} (record { certain = false; refusal = n }) (certain_answer r p)
+        (n ≡ 0 → ⊥) → ◌≡◌ {A = CertainAnswer} (record { certain = false; refusal = given n }) (certain_answer r p)
     unfolding certain_answer
     certain_refused ne = rw (ne_eqb (refusal r p) 0 (λ z. ne (e ∙ z)), e)
 
@@ -65,13 +66,13 @@ module _ (r : Run) (p : ℕ) where
         (c : Bool) →
         n ≡ 0 →
         c ≡ alone_in r.pages (layer r) p →
-        ◌≡◌ {A = CertainAnswer} (record { certain = c; refusal = 0 }) (certain_answer r p)
+        ◌≡◌ {A = CertainAnswer} (record { certain = c; refusal = None }) (certain_answer r p)
     unfolding certain_answer certain alone_in
     certain_told c z ec = let none : refusal r p ≡ 0 = sym e ∙ z in rw (none, ec)
 
 module _ (r : Run) where
   pub selection_refused :
-      sound r ≡ false → ◌≡◌ {A = SelectionAnswer} (record { pages = replicate most_pages false; refusal = 1 }) (selection_answer r)
+      sound r ≡ false → ◌≡◌ {A = SelectionAnswer} (record { pages = replicate most_pages false; refusal = given 1 }) (selection_answer r)
   unfolding selection_answer
   selection_refused e = rw e
 
@@ -80,7 +81,7 @@ module _ (r : Run) where
       sound r ≡ true →
       Keyed r.pages (ranks r) key →
       set ≡ marks r.pages (chosen r.pages (by_key key) (layer r) r.slots) →
-      ◌≡◌ {A = SelectionAnswer} (record { pages = set; refusal = 0 }) (selection_answer r)
+      ◌≡◌ {A = SelectionAnswer} (record { pages = set; refusal = None }) (selection_answer r)
   unfolding selection_answer marks
   selection_told set key e keyed es =
       let same = marks_same r.pages (chosen r.pages (by_key key) (layer r) r.slots) (selection r) (chosen_ranked r.pages (by_key key) (ranks r) (layer r) (keyed_same r.pages (ranks r) key keyed) r.slots) in

@@ -4,6 +4,10 @@ use Rattle.std.specs.Prelude.{true, false, ◌⊎◌, ◌≡◌, refl, ℕ, ◌�
 use Rattle.std.proofs.Common.{inl, inr, ap, ◌∙◌, arith}
 use Rattle.std.proofs.Math.Option.{Option, none, some}
 use borrow.Author.Tests.{lt-ltb, le-ltb, ltb-true}
+use Rattle.refusals.specs.declared.Refusal.{Refusal}
+use Rattle.refusals.specs.declared.Refusal.TheVariants.{Unsound, NoSuchPage, AllServed}
+use Rattle.refusals.specs.Numbers.{number}
+use Rattle.refusals.specs.Laws.{number_once, number_some}
 use Rattle.serve.specs.declared.Event.TheVariants.{Refused}
 use Rattle.run.specs.declared.Run.{Run}
 use Rattle.run.specs.declared.Served.{Served}
@@ -39,7 +43,7 @@ requested_values r p = go (sound r) (nat_lt p r.pages) (nat_lt r.counts.served m
   where
     go :
         (a b c : Bool) →
-        values (unless a give refused r 1 else unless b give refused r 8 else unless c give refused r 9 else served r p).event
+        values (unless a give refused r Unsound else unless b give refused r NoSuchPage else unless c give refused r AllServed else served r p).event
         ≡ (unless a give refusal_values 1 else unless b give refusal_values 8 else unless c give refusal_values 9 else
         if cached r p then record { refusal = 0; miss = 0; slot = slot_of r p; victim = 0 } else miss_values r (victim_of r p))
     go false b c = refl
@@ -88,18 +92,46 @@ module _ (r : Run) (p : ℕ) where
       go (inl a) (inl b) (inl c) = ((sound_iff r).0 a, ltb-true p r.pages b, ltb-true r.counts.served most_served c)
 
   pub requested_refused :
-      (n : ℕ) → n ≡ request_refusal r p → (n ≡ 0 → ⊥) → ◌≡◌ {A = Served} (record { run = r; event = Refused n; best = 0 }) (requested r p)
+      (n : Refusal) → number n ≡ request_refusal r p → ◌≡◌ {A = Served} (record { run = r; event = Refused n; best = 0 }) (requested r p)
   unfolding request_refusal requested
-  requested_refused n e ne = go (truth (sound r)) (truth (nat_lt p r.pages)) (truth (nat_lt r.counts.served most_served))
+  requested_refused n e = go (truth (sound r)) (truth (nat_lt p r.pages)) (truth (nat_lt r.counts.served most_served))
     where
       Test : Bool → Type 0
       Test b = (b ≡ true) ⊎ (b ≡ false)
 
       go : Test (sound r) → Test (nat_lt p r.pages) → Test (nat_lt r.counts.served most_served) → ◌≡◌ {A = Served} (record { run = r; event = Refused n; best = 0 }) (requested r p)
-      go (inr a) b c = rw (e, a)
-      go (inl a) (inr b) c = rw (e, a, b)
-      go (inl a) (inl b) (inr c) = rw (e, a, b, c)
-      go (inl a) (inl b) (inl c) = absurd (ne (e ∙ rw (a, b, c)))
+      go (inr a) b c = rw (number_once n Unsound (e ∙ rw a), a)
+      go (inl a) (inr b) c = rw (number_once n NoSuchPage (e ∙ rw (a, b)), a, b)
+      go (inl a) (inl b) (inr c) = rw (number_once n AllServed (e ∙ rw (a, b, c)), a, b, c)
+      go (inl a) (inl b) (inl c) = absurd (number_some n (e ∙ rw (a, b, c)))
+
+  -- the refusal of a number that is given
+  pub refused_by : (request_refusal r p ≡ 0 → ⊥) → (n : Refusal) × (number n ≡ request_refusal r p)
+  unfolding request_refusal
+  refused_by ne = go (truth (sound r)) (truth (nat_lt p r.pages)) (truth (nat_lt r.counts.served most_served))
+    where
+      Test : Bool → Type 0
+      Test b = (b ≡ true) ⊎ (b ≡ false)
+
+      go : Test (sound r) → Test (nat_lt p r.pages) → Test (nat_lt r.counts.served most_served) → (n : Refusal) × (number n ≡ request_refusal r p)
+      go (inr a) b c = (Unsound, rw a)
+      go (inl a) (inr b) c = (NoSuchPage, rw (a, b))
+      go (inl a) (inl b) (inr c) = (AllServed, rw (a, b, c))
+      go (inl a) (inl b) (inl c) = absurd (ne (rw (a, b, c)))
+
+  -- a refused request hands back its run
+  pub refused_run : (request_refusal r p ≡ 0 → ⊥) → (requested r p).run ≡ r
+  unfolding request_refusal requested
+  refused_run ne = go (truth (sound r)) (truth (nat_lt p r.pages)) (truth (nat_lt r.counts.served most_served))
+    where
+      Test : Bool → Type 0
+      Test b = (b ≡ true) ⊎ (b ≡ false)
+
+      go : Test (sound r) → Test (nat_lt p r.pages) → Test (nat_lt r.counts.served most_served) → (requested r p).run ≡ r
+      go (inr a) b c = rw a
+      go (inl a) (inr b) c = rw (a, b)
+      go (inl a) (inl b) (inr c) = rw (a, b, c)
+      go (inl a) (inl b) (inl c) = absurd (ne (rw (a, b, c)))
 
   pub requested_served : request_refusal r p ≡ 0 → requested r p ≡ served r p
   unfolding requested

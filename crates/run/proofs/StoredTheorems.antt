@@ -1,12 +1,13 @@
 -- What holds of stored runs: what the writer wrote reads back as the same run, only the exact layout is accepted, and a history
 -- survives. Assumes nothing.
-use Rattle.std.specs.Prelude.{Bool, true, false, ◌&&◌, List, ◌⊎◌, ◌≡◌, refl, ℕ, ◌≤◌, ◌<◌, length, set, nat_eq, slice_index_or}
+use Rattle.std.specs.Prelude.{Bool, true, false, ◌&&◌, List, ◌⊎◌, ◌≡◌, refl, ℕ, ◌≤◌, ◌<◌, length, set, nat_eq, slice_index_or, Result, Ok, Err}
+use Rattle.std.specs.Result.{is_ok}
 use Rattle.std.proofs.Common.{inl, inr, ⊎_elim, sym, ap, subst, ◌∙◌, arith, length-set, eqb-true}
 use Rattle.run.specs.declared.Run.{Run}
-use Rattle.run.specs.declared.Reading.TheVariants.{Accepted, Refused}
+use Rattle.refusals.specs.declared.Refusal.{Refusal}
 use Rattle.run.specs.declared.Restored.{Restored}
 use Rattle.paging.specs.Layers.{start_layer, next}
-use Rattle.paging.specs.Tests.{truth, bit_le, le_or_lt}
+use Rattle.paging.specs.Tests.{truth, clash, bit_le, le_or_lt}
 use Rattle.paging.specs.Tables.{table_length, table_at, table_past}
 use Rattle.words.specs.Laws.{Bytes}
 use Rattle.begin.specs.Limits.{most_pages, most_slots}
@@ -78,7 +79,7 @@ module _ (r : Run) (w : Sound r) (t : Typed r) where
   unfolding image_of
   none_refused = stored_accepted r.pages r.slots r.counts.served r.counts.hits r.counts.misses r.counts.best r.layer r.ranks.priority r.held st
 
-  pub stored_reads_back : restored (image_of r) ≡ record { run = r; event = Accepted }
+  pub stored_reads_back : restored (image_of r) ≡ record { run = r; event = Ok tt }
   stored_reads_back =
       sym
       (restored_accepted
@@ -98,7 +99,7 @@ unfolding image_of image_run image_counts
 whole b byte z agree = exact b byte z agree
 
 pub accepted_is_exact :
-    (b : List ℕ) → Bytes b → (restored b).event ≡ Accepted → (image_of (restored b).run ≡ b) × Sound (restored b).run
+    (b : List ℕ) → Bytes b → (restored b).event ≡ Ok tt → (image_of (restored b).run ≡ b) × Sound (restored b).run
 unfolding restored
 accepted_is_exact b byte h =
     go
@@ -109,19 +110,22 @@ accepted_is_exact b byte h =
     Test : Bool → Type 0
     Test x = (x ≡ true) ⊎ (x ≡ false)
 
+    not_read : {x : Refusal} → ◌≡◌ {A = Result Unit Refusal} (Err x) (Ok tt) → ⊥
+    not_read e = let o : ◌≡◌ {A = Bool} false true = ap is_ok e in clash refl (sym o)
+
     go :
         Test (nat_eq (image_refusal b) 0) →
         Test (marks_agree (pages_in b) (slots_in b) b) →
         Test (sound (image_run b)) →
         (image_of (restored b).run ≡ b) × Sound (restored b).run
-    go (inr a) c d = let x : Refused (image_refusal b) ≡ Accepted = rw a at h in let o : ◌≡◌ {A = ℕ} 0 1 = cc in absurd (omega arith)
-    go (inl a) (inr c) d = let x : Refused 1 ≡ Accepted = rw (a, c) at h in let o : ◌≡◌ {A = ℕ} 0 1 = cc in absurd (omega arith)
-    go (inl a) (inl c) (inr d) = let x : Refused 1 ≡ Accepted = rw (a, c, d) at h in let o : ◌≡◌ {A = ℕ} 0 1 = cc in absurd (omega arith)
+    go (inr a) c d = absurd (not_read (rw a at h))
+    go (inl a) (inr c) d = absurd (not_read (rw (a, c) at h))
+    go (inl a) (inl c) (inr d) = absurd (not_read (rw (a, c, d) at h))
     go (inl a) (inl c) (inl d) = rw (a, c, d) (whole b byte (eqb-true (image_refusal b) 0 a) c, (sound_iff (image_run b)).0 d)
 
 -- So no two different images mean the same run.
 pub images_differ :
-    (a b : List ℕ) → Bytes a → Bytes b → (restored a).event ≡ Accepted → (restored b).event ≡ Accepted → (restored a).run ≡ (restored b).run → a ≡ b
+    (a b : List ℕ) → Bytes a → Bytes b → (restored a).event ≡ Ok tt → (restored b).event ≡ Ok tt → (restored a).run ≡ (restored b).run → a ≡ b
 images_differ a b ba bb ea eb same =
     sym (accepted_is_exact a ba ea).0 ∙ (ap image_of same ∙ (accepted_is_exact b bb eb).0)
 
@@ -181,7 +185,7 @@ restored_history b ps r wide c =
 
 -- ---- A refused reader hands back the blank run; a refused writer changes no byte.
 
-pub refused_read : (b : List ℕ) → ((restored b).event ≡ Accepted → ⊥) → (restored b).run ≡ blank_run
+pub refused_read : (b : List ℕ) → ((restored b).event ≡ Ok tt → ⊥) → (restored b).run ≡ blank_run
 unfolding restored
 refused_read b ne =
     go

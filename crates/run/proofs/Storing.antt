@@ -1,22 +1,27 @@
 -- The image reader and writer as the code takes them. Assumes nothing.
 use Rattle.serve.specs.declared.Event.TheVariants.{Refused as Declined}
-use Rattle.std.specs.Prelude.{Bool, true, false, ◌&&◌, List, ◌≡◌, ◌⊎◌, ℕ, ◌+◌, ◌*◌, ◌≤◌, ◌<◌, length, nat_le}
+use Rattle.std.specs.Prelude.{Bool, true, false, ◌&&◌, List, ◌≡◌, ◌⊎◌, ℕ, ◌+◌, ◌*◌, ◌≤◌, ◌<◌, length, nat_le, None, Ok, Err}
 use Rattle.std.proofs.Math.Path.{refl, sym, ap, subst}
 use Rattle.std.proofs.Common.{◌∙◌, inl, inr, ⊎_elim, arith}
-use borrow.Author.Tests.{ne_eqb, le-leb, lt-leb, leb-true}
+use borrow.Author.Tests.{ne_eqb, eq-eqb, le-leb, lt-leb, leb-true}
+use Rattle.refusals.specs.declared.Refusal.{Refusal}
+use Rattle.refusals.specs.declared.Refusal.TheVariants.{Unsound, NoSuchPage, AllServed}
+use Rattle.refusals.specs.Numbers.{number, named, given}
+use Rattle.refusals.specs.Laws.{number_some, named_number, number_named}
+use Rattle.serve.specs.Event.{values}
+use Rattle.serve.specs.declared.Event.{Event}
 use Rattle.ranking.specs.declared.Ranks.{Ranks}
 use Rattle.ranking.specs.Ranks.{fixed_ranks}
 use Rattle.run.specs.declared.Run.{Run}
-use Rattle.run.specs.declared.Reading.TheVariants.{Accepted, Refused}
 use Rattle.run.specs.declared.Restored.{Restored}
 use Rattle.run.specs.declared.Served.{Served}
 use Rattle.run.specs.declared.Stored.{Stored}
 use Rattle.paging.specs.Sets.{◌=?◌, unless◌give◌else◌}
-use Rattle.paging.specs.Tests.{truth, is, le_or_lt}
+use Rattle.paging.specs.Tests.{truth, is, clash, le_or_lt}
 use Rattle.words.specs.Words.{word_at, put}
 use Rattle.image.specs.Layout.{image_length, pages_in, slots_in, image_refusal, image_layers, image_slots}
 use Rattle.image.specs.Layout.{image_priorities, marks_agree}
-use Rattle.image.proofs.Laws.{refusal_read}
+use Rattle.image.proofs.Laws.{refusal_read, refusal_small}
 use Rattle.run.specs.Numbers.{layer, blank_run}
 use Rattle.counts.specs.Counts.{most_served}
 use Rattle.run.specs.Sound.{Sound, sound}
@@ -28,21 +33,22 @@ use Rattle.run.proofs.SoundLaws.{sound_iff}
 
 -- ---- reading
 
-module _ (b : List ℕ) (n : ℕ) (told : n ≡ image_refusal b) where
+module _ (b : List ℕ) (n : ℕ) (told_is : n ≡ image_refusal b) where
   pub restored_refused :
-      (r : Run) → (n ≡ 0 → ⊥) → r ≡ blank_run → ◌≡◌ {A = Restored} (record { run = r; event = Refused n }) (restored b)
+      (r : Run) (x : Refusal) → number x ≡ n → r ≡ blank_run → ◌≡◌ {A = Restored} (record { run = r; event = Err x }) (restored b)
   unfolding restored
-  restored_refused r ne e = rw (e, ne_eqb (image_refusal b) 0 (λ z. ne (told ∙ z)), told)
+  restored_refused r x is e =
+      rw (e, ne_eqb (image_refusal b) 0 (λ z. number_some x (is ∙ (told_is ∙ z))), sym (ap named (is ∙ told_is)), named_number x)
 
   module _ (z : n ≡ 0) where
     none : image_refusal b ≡ 0
-    none = sym told ∙ z
+    none = sym told_is ∙ z
 
     pub restored_unequal :
         (r : Run) →
         marks_agree (pages_in b) (slots_in b) b ≡ false →
         r ≡ blank_run →
-        ◌≡◌ {A = Restored} (record { run = r; event = Refused 1 }) (restored b)
+        ◌≡◌ {A = Restored} (record { run = r; event = Err Unsound }) (restored b)
     unfolding restored
     restored_unequal r h e = rw (e, none, h)
 
@@ -51,7 +57,7 @@ module _ (b : List ℕ) (n : ℕ) (told : n ≡ image_refusal b) where
           (r : Run) →
           sound (image_run b) ≡ false →
           r ≡ blank_run →
-          ◌≡◌ {A = Restored} (record { run = r; event = Refused 1 }) (restored b)
+          ◌≡◌ {A = Restored} (record { run = r; event = Err Unsound }) (restored b)
       unfolding restored
       restored_unsound r h e = rw (e, none, agree, h)
 
@@ -59,23 +65,24 @@ module _ (b : List ℕ) (n : ℕ) (told : n ≡ image_refusal b) where
           (r : Run) →
           r ≡ image_run b →
           sound r ≡ true →
-          ◌≡◌ {A = Restored} (record { run = r; event = Accepted }) (restored b)
+          ◌≡◌ {A = Restored} (record { run = r; event = Ok tt }) (restored b)
       unfolding restored
       restored_accepted r e h = rw (none, agree, rw e at h, e)
 
 -- the number of the answer is the first refusal that applies
-number_of_cases : (n : ℕ) (a b : Bool) (r : Run) →
-    reading_number (unless a give no_run n else unless b give no_run 1 else record { run = r; event = Accepted }).event
+number_of_cases : (n : ℕ) (a b : Bool) (r : Run) → (a ≡ false → number (named n) ≡ n) →
+    reading_number (unless a give no_run (named n) else unless b give no_run Unsound else record { run = r; event = Ok tt }).event
     ≡ (unless a give n else unless b give 1 else 0)
 unfolding reading_number
-number_of_cases n false b r = refl
-number_of_cases n true false r = refl
-number_of_cases n true true r = refl
+number_of_cases n false b r is = is refl
+number_of_cases n true false r is = refl
+number_of_cases n true true r is = refl
 
 pub restored_number : (b : List ℕ) → reading_number (restored b).event ≡ restore_refusal b
 unfolding restored restore_refusal
 restored_number b =
     number_of_cases (image_refusal b) (image_refusal b =? 0) (marks_agree (pages_in b) (slots_in b) b && sound (image_run b)) (image_run b)
+    (λ e. number_named (image_refusal b) (refusal_small b) (λ z. clash (eq-eqb (image_refusal b) 0 z) e))
 
 -- What the reader's two promises say, from the first of them.
 pub with_number : (b : List ℕ) (x : Restored) → x ≡ restored b → (x ≡ restored b) × (reading_number x.event ≡ restore_refusal b)
@@ -144,9 +151,9 @@ module _ (b : List ℕ) (x : Run) (ex : x ≡ image_run b) where
 module _ (b : List ℕ) (p : ℕ) where
   -- the reader refuses
   pub in_refused :
-      (n : ℕ) (r : Run) (x : Served) →
+      (n : Refusal) (r : Run) (x : Served) →
       r ≡ blank_run →
-      ◌≡◌ {A = Restored} (record { run = r; event = Refused n }) (restored b) →
+      ◌≡◌ {A = Restored} (record { run = r; event = Err n }) (restored b) →
       x ≡ refused r n →
       x ≡ requested_in b p
   unfolding requested_in after_reading
@@ -156,7 +163,7 @@ module _ (b : List ℕ) (p : ℕ) where
   -- it accepts, and the request is that of the run in the image
   pub in_accepted :
       (r : Run) (x : Served) →
-      ◌≡◌ {A = Restored} (record { run = r; event = Accepted }) (restored b) →
+      ◌≡◌ {A = Restored} (record { run = r; event = Ok tt }) (restored b) →
       x ≡ requested r p →
       x ≡ requested_in b p
   unfolding requested_in after_reading
@@ -164,24 +171,25 @@ module _ (b : List ℕ) (p : ℕ) where
       ex ∙ subst (λ (y : Restored). requested r p ≡ after_reading y.run y.event p) e refl
 
 -- a request gets 1 exactly where the run is not sound
-pub one_unsound : (r : Run) (p : ℕ) → (requested r p).event ≡ Declined 1 → sound r ≡ false
+pub one_unsound : (r : Run) (p : ℕ) → (requested r p).event ≡ Declined Unsound → sound r ≡ false
+unfolding values
 one_unsound r p e = ⊎_elim (λ s. absurd (not_one s)) (λ f. f) (truth (sound r))
   where
     not_one : sound r ≡ true → ⊥
-    not_one s = ⊎_elim (λ h. eight h) (λ l. ⊎_elim (λ h. nine l h) (λ room. never_refused r w p l room 1 e) (le_or_lt most_served r.counts.served)) (le_or_lt r.pages p)
+    not_one s = ⊎_elim (λ h. eight h) (λ l. ⊎_elim (λ h. nine l h) (λ room. never_refused r w p l room Unsound e) (le_or_lt most_served r.counts.served)) (le_or_lt r.pages p)
       where
         w : Sound r
         w = (sound_iff r).0 s
 
         eight : r.pages ≤ p → ⊥
-        eight h = let z : Declined 8 ≡ Declined 1 = sym (refused_8 r w p h) ∙ e in let o : ◌≡◌ {A = ℕ} 8 1 = cc in omega arith
+        eight h = let z : Declined NoSuchPage ≡ Declined Unsound = sym (refused_8 r w p h) ∙ e in let o : ◌≡◌ {A = ℕ} 8 1 = ap (λ (x : Event). (values x).refusal) z in omega arith
 
         nine : p < r.pages → most_served ≤ r.counts.served → ⊥
-        nine l h = let z : Declined 9 ≡ Declined 1 = sym (refused_9 r w p l h) ∙ e in let o : ◌≡◌ {A = ℕ} 9 1 = cc in omega arith
+        nine l h = let z : Declined AllServed ≡ Declined Unsound = sym (refused_9 r w p l h) ∙ e in let o : ◌≡◌ {A = ℕ} 9 1 = ap (λ (x : Event). (values x).refusal) z in omega arith
 
-pub not_one_sound : (r : Run) (p : ℕ) → ((requested r p).event ≡ Declined 1 → ⊥) → sound r ≡ true
+pub not_one_sound : (r : Run) (p : ℕ) → ((requested r p).event ≡ Declined Unsound → ⊥) → sound r ≡ true
 not_one_sound r p ne =
-    is (sound r) (λ f. ne (sym (ap (λ (s : Served). s.event) (requested_refused r p 1 (refuse_unsound r p f) (λ z. omega arith)))))
+    is (sound r) (λ f. ne (sym (ap (λ (s : Served). s.event) (requested_refused r p Unsound (refuse_unsound r p f)))))
 
 -- ---- writing
 
@@ -199,7 +207,7 @@ module _ (r : Run) (out : List ℕ) where
   store_none e h = rw (e, le-leb (image_length r.pages r.slots) (length out) h)
 
   module _ (n : ℕ) (told : n ≡ store_refusal r out) where
-    pub stored_refused : (n ≡ 0 → ⊥) → ◌≡◌ {A = Stored} (record { length = 0; refusal = n }) (stored r out)
+    pub stored_refused : (n ≡ 0 → ⊥) → ◌≡◌ {A = Stored} (record { length = 0; refusal = given n }) (stored r out)
     unfolding stored
     stored_refused ne = rw (ne_eqb (store_refusal r out) 0 (λ z. ne (told ∙ z)), told)
 
@@ -208,7 +216,7 @@ module _ (r : Run) (out : List ℕ) where
     stored_untouched ne = rw (ne_eqb (store_refusal r out) 0 (λ z. ne (told ∙ z)))
 
     pub stored_told :
-        (l : ℕ) → n ≡ 0 → l ≡ image_length r.pages r.slots → ◌≡◌ {A = Stored} (record { length = l; refusal = 0 }) (stored r out)
+        (l : ℕ) → n ≡ 0 → l ≡ image_length r.pages r.slots → ◌≡◌ {A = Stored} (record { length = l; refusal = None }) (stored r out)
     unfolding stored
     stored_told l z e = let none : store_refusal r out ≡ 0 = sym told ∙ z in rw (none, e)
 

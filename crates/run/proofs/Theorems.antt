@@ -1,12 +1,16 @@
 -- What holds of the calls on a run. Each call's contract is that it answers as `started`, `requested`, `tried` and the others say
 -- (Start, Request, Questions), so these are theorems about the calls. Assumes nothing.
 use Rattle.std.proofs.Math.Bool.{true}
-use Rattle.std.specs.Prelude.{false, List, [], ◌∷◌, ◌++◌, ◌⊎◌, ◌≡◌, refl, ℕ, ◌+◌, ◌≤◌, ◌<◌, set, nat_eq}
+use Rattle.std.specs.Prelude.{false, List, [], ◌∷◌, ◌++◌, ◌⊎◌, ◌≡◌, refl, ℕ, ◌+◌, ◌≤◌, ◌<◌, set, nat_eq, Some, None}
 use Rattle.std.proofs.Math.Logic.{inl, ⊎_elim}
 use Rattle.std.proofs.Common.{inr, sym, subst, ◌∙◌, arith}
 use Rattle.std.proofs.Math.Option.{some}
 use Rattle.std.proofs.Math.Path.{ap}
 use Rattle.serve.specs.declared.Event.TheVariants.{Hit, Miss, Refused}
+use Rattle.serve.specs.declared.Event.{Event}
+use Rattle.serve.specs.Event.{values}
+use Rattle.refusals.specs.declared.Refusal.{Refusal}
+use Rattle.refusals.specs.declared.Refusal.TheVariants.{NoSuchPage, AllServed, NoVictim}
 use Rattle.run.specs.declared.Run.{Run}
 use Rattle.run.specs.declared.Served.{Served}
 use Rattle.paging.specs.Sets.{bit, remove, insert}
@@ -29,8 +33,8 @@ use Rattle.run.proofs.RequestLaws.{victim_in, slot_holds, counted_layers, hit_so
 use Rattle.run.proofs.RequestLaws.{swapped_set, miss_sound}
 use Rattle.run.specs.StartLaws.{start_layers_are, start_cached, start_sound, Accepted, accepted, started_sound}
 use Rattle.run.specs.Requesting.{request_refusal}
-use Rattle.run.proofs.Requesting.{refuse_page, refuse_served, refuse_none, not_refused, requested_refused}
-use Rattle.run.proofs.Requesting.{requested_served}
+use Rattle.run.proofs.Requesting.{refuse_page, refuse_served, refuse_none, not_refused, requested_refused, refused_run}
+use Rattle.run.proofs.Requesting.{requested_served, refused_run}
 use Rattle.run.specs.History.{Begun, first_run, ComesFrom, begins, serves}
 use Rattle.run.specs.Theorems.{IsHit, IsMiss}
 
@@ -74,10 +78,10 @@ module _ (r : Run) (w : Sound r) (p : ℕ) (pN : p < r.pages) (room : r.counts.s
 
 -- ---- Every accepted start is sound, and from a sound run every request that is not refused gives a sound run.
 
-pub start_is_sound : (N k : ℕ) (ps pr : List ℕ) → (started N k ps pr).refusal ≡ 0 → Sound (started N k ps pr).run
+pub start_is_sound : (N k : ℕ) (ps pr : List ℕ) → (started N k ps pr).refusal ≡ None → Sound (started N k ps pr).run
 start_is_sound = started_sound
 
-pub default_is_sound : (N k : ℕ) (ps : List ℕ) → (started_default N k ps).refusal ≡ 0 → Sound (started_default N k ps).run
+pub default_is_sound : (N k : ℕ) (ps : List ℕ) → (started_default N k ps).refusal ≡ None → Sound (started_default N k ps).run
 unfolding started_default
 default_is_sound N k ps h = started_sound N k ps (default_priorities N) h
 
@@ -95,7 +99,7 @@ request_is_sound r p w = ⊎_elim served_is refused_is (same_or_not (request_ref
         (hit_or_miss r w p pN room)
 
     refused_is : (request_refusal r p ≡ 0 → ⊥) → Sound (requested r p).run
-    refused_is ne = subst Sound (ap (λ (s : Served). s.run) (requested_refused r p (request_refusal r p) refl ne)) w
+    refused_is ne = subst Sound (sym (refused_run r p ne)) w
 
 -- So the cached set is the selection after every request.
 pub cached_is_selection :
@@ -165,15 +169,15 @@ module _ (r : Run) (w : Sound r) (p : ℕ) (pN : p < r.pages) (room : r.counts.s
 -- ---- A sound run's request is refused exactly for 8 and 9, never 17.
 
 module _ (r : Run) (w : Sound r) (p : ℕ) where
-  pub refused_8 : r.pages ≤ p → (requested r p).event ≡ Refused 8
+  pub refused_8 : r.pages ≤ p → (requested r p).event ≡ Refused NoSuchPage
   refused_8 h =
-      sym (ap (λ (s : Served). s.event) (requested_refused r p 8 (refuse_page r p ((sound_iff r).1 w) h) (λ z. omega arith)))
+      sym (ap (λ (s : Served). s.event) (requested_refused r p NoSuchPage (refuse_page r p ((sound_iff r).1 w) h)))
 
-  pub refused_9 : p < r.pages → most_served ≤ r.counts.served → (requested r p).event ≡ Refused 9
+  pub refused_9 : p < r.pages → most_served ≤ r.counts.served → (requested r p).event ≡ Refused AllServed
   refused_9 l h =
-      sym (ap (λ (s : Served). s.event) (requested_refused r p 9 (refuse_served r p ((sound_iff r).1 w) l h) (λ z. omega arith)))
+      sym (ap (λ (s : Served). s.event) (requested_refused r p AllServed (refuse_served r p ((sound_iff r).1 w) l h)))
 
-  pub never_refused : p < r.pages → r.counts.served < most_served → (n : ℕ) → (requested r p).event ≡ Refused n → ⊥
+  pub never_refused : p < r.pages → r.counts.served < most_served → (n : Refusal) → (requested r p).event ≡ Refused n → ⊥
   never_refused l room n e =
       ⊎_elim
       (λ h. let z : Hit (slot_of r p) ≡ Refused n = sym h.event ∙ e in let o : ◌≡◌ {A = ℕ} 0 1 = cc in omega arith)
@@ -184,14 +188,15 @@ module _ (r : Run) (w : Sound r) (p : ℕ) where
       omega arith)
       (hit_or_miss r w p l room)
 
-  pub never_17 : (requested r p).event ≡ Refused 17 → ⊥
+  pub never_17 : (requested r p).event ≡ Refused NoVictim → ⊥
+  unfolding values
   never_17 e =
       ⊎_elim
-      (λ h. let z : Refused 8 ≡ Refused 17 = sym (refused_8 h) ∙ e in let o : ◌≡◌ {A = ℕ} 8 17 = cc in omega arith)
+      (λ h. let z : Refused NoSuchPage ≡ Refused NoVictim = sym (refused_8 h) ∙ e in let o : ◌≡◌ {A = ℕ} 8 17 = ap (λ (x : Event). (values x).refusal) z in omega arith)
       (λ l.
       ⊎_elim
-      (λ h. let z : Refused 9 ≡ Refused 17 = sym (refused_9 l h) ∙ e in let o : ◌≡◌ {A = ℕ} 9 17 = cc in omega arith)
-      (λ room. never_refused l room 17 e)
+      (λ h. let z : Refused AllServed ≡ Refused NoVictim = sym (refused_9 l h) ∙ e in let o : ◌≡◌ {A = ℕ} 9 17 = ap (λ (x : Event). (values x).refusal) z in omega arith)
+      (λ room. never_refused l room NoVictim e)
       (le_or_lt most_served r.counts.served))
       (le_or_lt r.pages p)
 

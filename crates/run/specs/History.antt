@@ -1,5 +1,5 @@
 -- Document 01, 'A sound run': the history that demand 3 is about. Assumes nothing.
-use Rattle.std.specs.Prelude.{List, [], ◌∷◌, ◌++◌, ◌≡◌, ℕ, ◌<◌}
+use Rattle.std.specs.Prelude.{List, [], ◌∷◌, ◌++◌, ◌≡◌, ℕ, ◌<◌, None}
 use Rattle.run.specs.declared.Run.{Run}
 use Rattle.counts.specs.Counts.{most_served}
 use Rattle.run.specs.Start.{started}
@@ -11,7 +11,7 @@ pub record Begun : Type 0 where
   pub slots : ℕ
   pub list : List ℕ
   pub priorities : List ℕ
-  pub accepted : (started pages slots list priorities).refusal ≡ 0
+  pub accepted : (started pages slots list priorities).refusal ≡ None
 
 -- The run that it starts.
 abbrev pub first_run : Begun → Run

@@ -3,6 +3,8 @@ use Rattle.std.specs.Prelude.{List, ℕ, set, if◌then◌else◌}
 use Rattle.std.proofs.Math.Option.{Option, none, some}
 use Rattle.run.specs.declared.Run.{Run}
 use Rattle.run.specs.declared.Served.{Served}
+use Rattle.refusals.specs.declared.Refusal.{Refusal}
+use Rattle.refusals.specs.declared.Refusal.TheVariants.{Unsound, NoSuchPage, AllServed, NoVictim}
 use Rattle.serve.specs.declared.Event.{Event}
 use Rattle.serve.specs.declared.Event.TheVariants.{Hit, Miss, Refused}
 use Rattle.serve.specs.Event.{Values}
@@ -37,7 +39,7 @@ abbrev pub answer : Run → Event → Served
 answer r e = record { run = r; event = e; best = r.counts.best }
 
 -- A refused request hands back its run. Every other value beside a refusal is 0.
-abbrev pub refused : Run → ℕ → Served
+abbrev pub refused : Run → Refusal → Served
 refused r n = record { run = r; event = Refused n; best = 0 }
 
 unfoldable pub with_hit : Run → ℕ → Served
@@ -45,7 +47,7 @@ with_hit r p = answer (counted r p 1 0 r.held) (Hit (slot_of r p))
 
 -- The victim is taken from the layers before they change. The new page takes the victim's slot. 17: a miss finds no j.
 unfoldable pub with_miss : Run → ℕ → Option ℕ → Served
-with_miss r p none = refused r 17
+with_miss r p none = refused r NoVictim
 with_miss r p (some v) = answer (counted r p 0 1 (set r.held (slot_of r v) p)) (Miss (slot_of r v) v)
 
 -- A request of a page below N to a sound run that may still serve one.
@@ -55,9 +57,9 @@ served r p = if cached r p then with_hit r p else with_miss r p (victim_of r p)
 -- Request and trial: 1, 8, 9, 17.
 unfoldable pub requested : Run → ℕ → Served
 requested r p =
-    unless sound r give refused r 1 else
-    unless p <? r.pages give refused r 8 else
-    unless r.counts.served <? most_served give refused r 9 else
+    unless sound r give refused r Unsound else
+    unless p <? r.pages give refused r NoSuchPage else
+    unless r.counts.served <? most_served give refused r AllServed else
     served r p
 
 -- This paper's number and values of the answer to a request or trial, without the enum: 1, 8, 9; then hit or miss, the slot

@@ -1,8 +1,9 @@
 -- Document 01, the answer of a start. Assumes nothing.
-use Rattle.std.specs.Prelude.{List, ℕ, length}
+use Rattle.std.specs.Prelude.{List, ℕ, length, None}
 use Rattle.run.specs.declared.Run.{Run}
 use Rattle.run.specs.declared.Started.{Started}
 use Rattle.paging.specs.Sets.{◌=?◌, unless◌give◌else◌}
+use Rattle.refusals.specs.Numbers.{given}
 use Rattle.ranking.specs.declared.Ranks.{Ranks}
 use Rattle.ranking.specs.Ranks.{fixed_ranks}
 use Rattle.ranking.specs.Defaults.{default_priorities}
@@ -29,7 +30,7 @@ listed_run N k ps priorities = start_run N k ps (fixed_ranks (start_priorities N
 
 -- A refused start hands back the blank run.
 abbrev pub no_start : ℕ → Started
-no_start n = record { run = blank_run; refusal = n }
+no_start n = record { run = blank_run; refusal = given n }
 
 -- Start: 2, 3, 4, 5, 6, 7.
 unfoldable pub started : ℕ → ℕ → List ℕ → List ℕ → Started
@@ -40,7 +41,7 @@ started N k ps priorities =
     unless below N ps give no_start 5 else
     unless different ps give no_start 6 else
     unless length priorities =? N give no_start 7 else
-    record { run = listed_run N k ps priorities; refusal = 0 }
+    record { run = listed_run N k ps priorities; refusal = None }
 
 -- A start may name a default priority list. It is never refused with 7.
 unfoldable pub started_default : ℕ → ℕ → List ℕ → Started

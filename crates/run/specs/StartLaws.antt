@@ -1,5 +1,5 @@
 -- A started run is sound, and holds the start pages. Assumes nothing.
-use Rattle.std.specs.Prelude.{Bool, true, false, List, ◌⊎◌, ◌≡◌, refl, length, nat_eq, slice_index_or}
+use Rattle.std.specs.Prelude.{Bool, true, false, List, ◌⊎◌, ◌≡◌, refl, length, nat_eq, slice_index_or, None}
 use Rattle.std.proofs.Common.{inl, inr, ap, ◌∙◌, arith, eqb-true}
 use Rattle.std.proofs.Math.Logic.{⊎_elim}
 use Rattle.std.proofs.Math.Path.{sym, subst, fun_ext}
@@ -15,6 +15,7 @@ use Rattle.paging.specs.Tables.{entry_any, table_at, table_past}
 use Rattle.paging.specs.Top.{rank}
 use Rattle.paging.proofs.Begin.{placed_or, seen_in, seen_was, start_of, start_justified}
 use Rattle.paging.proofs.Theorems.{selection_justified}
+use Rattle.refusals.specs.Laws.{none_given}
 use Rattle.ranking.proofs.Order.{outranks_ranking}
 use Rattle.slots.specs.Slots.{no_page}
 use Rattle.slots.specs.Laws.{seated_in, seated_was}
@@ -128,7 +129,7 @@ pub record Accepted (N k : ℕ) (ps pr : List ℕ) : Type 0 where
   pub priorities : length pr ≡ N
   pub run : (started N k ps pr).run ≡ listed_run N k ps pr
 
-pub accepted : (N k : ℕ) (ps pr : List ℕ) → (started N k ps pr).refusal ≡ 0 → Accepted N k ps pr
+pub accepted : (N k : ℕ) (ps pr : List ℕ) → (started N k ps pr).refusal ≡ None → Accepted N k ps pr
 unfolding started
 accepted N k ps pr h = go (truth (pages_fit N)) (truth (slots_fit N k)) (truth (nat_eq (length ps) k)) (truth (below N ps)) (truth (different ps)) (truth (nat_eq (length pr) N))
   where
@@ -136,12 +137,12 @@ accepted N k ps pr h = go (truth (pages_fit N)) (truth (slots_fit N k)) (truth (
     Test b = (b ≡ true) ⊎ (b ≡ false)
 
     go : Test (pages_fit N) → Test (slots_fit N k) → Test (nat_eq (length ps) k) → Test (below N ps) → Test (different ps) → Test (nat_eq (length pr) N) → Accepted N k ps pr
-    go (inr a) b c d e f = absurd (omega (arith, rw a at h))
-    go (inl a) (inr b) c d e f = absurd (omega (arith, rw (a, b) at h))
-    go (inl a) (inl b) (inr c) d e f = absurd (omega (arith, rw (a, b, c) at h))
-    go (inl a) (inl b) (inl c) (inr d) e f = absurd (omega (arith, rw (a, b, c, d) at h))
-    go (inl a) (inl b) (inl c) (inl d) (inr e) f = absurd (omega (arith, rw (a, b, c, d, e) at h))
-    go (inl a) (inl b) (inl c) (inl d) (inl e) (inr f) = absurd (omega (arith, rw (a, b, c, d, e, f) at h))
+    go (inr a) b c d e f = absurd (omega (arith, none_given 2 (rw a at h)))
+    go (inl a) (inr b) c d e f = absurd (omega (arith, none_given 3 (rw (a, b) at h)))
+    go (inl a) (inl b) (inr c) d e f = absurd (omega (arith, none_given 4 (rw (a, b, c) at h)))
+    go (inl a) (inl b) (inl c) (inr d) e f = absurd (omega (arith, none_given 5 (rw (a, b, c, d) at h)))
+    go (inl a) (inl b) (inl c) (inl d) (inr e) f = absurd (omega (arith, none_given 6 (rw (a, b, c, d, e) at h)))
+    go (inl a) (inl b) (inl c) (inl d) (inl e) (inr f) = absurd (omega (arith, none_given 7 (rw (a, b, c, d, e, f) at h)))
     go (inl a) (inl b) (inl c) (inl d) (inl e) (inl f) =
         let len = eqb-true (length ps) k c in
         record {
@@ -157,7 +158,7 @@ accepted N k ps pr h = go (truth (pages_fit N)) (truth (slots_fit N k)) (truth (
           run = rw (a, b, c, d, e, f);
         }
 
-pub started_sound : (N k : ℕ) (ps pr : List ℕ) → (started N k ps pr).refusal ≡ 0 → Sound (started N k ps pr).run
+pub started_sound : (N k : ℕ) (ps pr : List ℕ) → (started N k ps pr).refusal ≡ None → Sound (started N k ps pr).run
 started_sound N k ps pr h =
     let a = accepted N k ps pr h in
     rw a.run (start_sound N k ps pr a.pages a.slots a.list)

@@ -1,11 +1,14 @@
 -- The answer of a start as the code makes it: its refusal first, then the run. Assumes nothing.
-use Rattle.std.specs.Prelude.{true, List, ◌≡◌, refl, ℕ, length}
+use Rattle.std.specs.Prelude.{true, List, ◌≡◌, refl, ℕ, length, Some, None}
 use Rattle.std.proofs.Common.{⊎_elim, sym, ap, ◌∙◌, arith}
 use borrow.Author.Tests.{eq-eqb, ne_eqb}
 use Rattle.run.specs.declared.Run.{Run}
 use Rattle.run.specs.declared.Started.{Started}
 use Rattle.paging.specs.Tests.{same_or_not}
 use Rattle.paging.specs.Tables.{listed_length}
+use Rattle.refusals.specs.declared.Refusal.TheVariants.{Priorities}
+use Rattle.refusals.specs.Numbers.{given, number_in}
+use Rattle.refusals.specs.Laws.{number_given}
 use Rattle.ranking.specs.declared.Ranks.{Ranks}
 use Rattle.ranking.specs.Ranks.{fixed_ranks}
 use Rattle.ranking.specs.Defaults.{default_priority, default_priorities}
@@ -50,7 +53,7 @@ module _ (N k : ℕ) (ps pr : List ℕ) (ok : list_refusal N k ps ≡ 0) where
       rw (pages, slots, eq-eqb (length ps) k w.entries, w.below_is, w.different_is, ne_eqb (length pr) N ne)
 
   pub accepted_start :
-      length pr ≡ N → started N k ps pr ≡ record { run = listed_run N k ps pr; refusal = 0 }
+      length pr ≡ N → started N k ps pr ≡ record { run = listed_run N k ps pr; refusal = None }
   unfolding started
   accepted_start e =
       rw (pages, slots, eq-eqb (length ps) k w.entries, w.below_is, w.different_is, eq-eqb (length pr) N e)
@@ -58,7 +61,7 @@ module _ (N k : ℕ) (ps pr : List ℕ) (ok : list_refusal N k ps ≡ 0) where
 -- ---- what the code answers
 
 module _ (N k : ℕ) (ps pr : List ℕ) (r : Run) (n : ℕ) (told : n ≡ start_refusal N k ps (length pr)) where
-  pub answer_refused : (n ≡ 0 → ⊥) → r ≡ blank_run → record { run = r; refusal = n } ≡ started N k ps pr
+  pub answer_refused : (n ≡ 0 → ⊥) → r ≡ blank_run → record { run = r; refusal = given n } ≡ started N k ps pr
   answer_refused ne e = rw e (⊎_elim listed unlisted (same_or_not (list_refusal N k ps) 0))
     where
       unlisted : (list_refusal N k ps ≡ 0 → ⊥) → no_start n ≡ started N k ps pr
@@ -76,7 +79,7 @@ module _ (N k : ℕ) (ps pr : List ℕ) (r : Run) (n : ℕ) (told : n ≡ start_
       n ≡ 0 →
       ranks ≡ fixed_ranks (start_priorities N pr) →
       r ≡ start_run N k ps ranks →
-      ◌≡◌ {A = Started} (record { run = r; refusal = 0 }) (started N k ps pr)
+      ◌≡◌ {A = Started} (record { run = r; refusal = None }) (started N k ps pr)
   answer_begun ranks z er e =
       let (ok, l) = start_allowed N k ps (length pr) (sym told ∙ z) in
       rw (e, er) (sym (accepted_start N k ps pr ok l))
@@ -92,11 +95,15 @@ pub default_told :
 default_told N k ps n e = e ∙ ap (start_refusal N k ps) (sym (default_length N))
 
 -- A start with the default list is never refused with 7.
-pub default_never_7 : (N k : ℕ) (ps : List ℕ) → (started_default N k ps).refusal ≡ 7 → ⊥
+pub default_never_7 : (N k : ℕ) (ps : List ℕ) → (started_default N k ps).refusal ≡ Some Priorities → ⊥
 unfolding started_default
 default_never_7 N k ps h =
     ⊎_elim
-    (λ z. omega (arith, ap (λ (s : Started). s.refusal) (accepted_start N k ps (default_priorities N) z (default_length N))))
+    (λ z. omega (arith, ap number_in h, ap answered (accepted_start N k ps (default_priorities N) z (default_length N))))
     (λ ne.
-    omega (arith, refusal_small N k ps, ap (λ (s : Started). s.refusal) (refused_list N k ps (default_priorities N) ne)))
+    let small = refusal_small N k ps in
+    omega (arith, ap number_in h, small, number_given (list_refusal N k ps) (omega arith), ap answered (refused_list N k ps (default_priorities N) ne)))
     (same_or_not (list_refusal N k ps) 0)
+  where
+    answered : Started → ℕ
+    answered s = number_in s.refusal

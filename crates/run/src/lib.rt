@@ -2,13 +2,15 @@
 // Assumes nothing.
 #![tactic(auto)]
 
-ghost use Rattle.std.specs.Prelude.{◌≡◌, ◌<◌, length};
+ghost use Rattle.std.specs.Prelude.{◌≡◌, ℕ, ◌≤◌, ◌<◌, length, slice_index_or};
+ghost use Rattle.words.specs.Words.{put};
 ghost use Rattle.ranking.specs.Key.{Narrow, page_keys};
 ghost use Rattle.ranking.specs.Ranks.{fixed_ranks};
+ghost use Rattle.refusals.specs.Numbers.{told};
 ghost use Rattle.begin.specs.Refusals.{list_refusal};
 ghost use Rattle.counts.specs.Counts.{most_served};
 ghost use Rattle.serve.specs.Event.{values};
-ghost use Rattle.image.specs.Layout.{image_refusal};
+ghost use Rattle.image.specs.Layout.{image_length, image_refusal};
 ghost use Rattle.run.specs.Numbers.{blank_run};
 ghost use Rattle.run.specs.Start.{start_run, started, started_default};
 ghost use Rattle.run.specs.Sound.{Sound, sound};
@@ -16,10 +18,12 @@ ghost use Rattle.run.specs.Testing.{parts_sound};
 ghost use Rattle.run.specs.Request.{served, refused, requested, request_values, tried};
 ghost use Rattle.run.specs.Serving.{RunKeys};
 ghost use Rattle.run.specs.Questions.{refusal, layer_answer, certain_answer, selection_answer};
-ghost use Rattle.run.specs.Stored.{image_run, image_described, restored, restore_refusal, reading_number, store_refusal, stored, stored_bytes, requested_in};
+ghost use Rattle.run.specs.Stored.{image_run, image_described, restored, restore_refusal, reading_number, store_refusal, image_of, stored, stored_bytes, requested_in};
 
 use counts::Counts;
+use image::Parts;
 use ranking::{Key, Ranks};
+use refusals::Refusal;
 use serve::Event;
 
 #[derive(Clone, Copy)]
@@ -43,45 +47,39 @@ pub struct Served {
 #[derive(Clone, Copy)]
 pub struct Started {
     pub run: Run,
-    pub refusal: u8,
+    pub refusal: Option<Refusal>,
 }
 
 #[derive(Clone, Copy)]
 pub struct LayerAnswer {
     pub layer: u8,
-    pub refusal: u8,
+    pub refusal: Option<Refusal>,
 }
 
 #[derive(Clone, Copy)]
 pub struct CertainAnswer {
     pub certain: bool,
-    pub refusal: u8,
+    pub refusal: Option<Refusal>,
 }
 
 #[derive(Clone, Copy)]
 pub struct SelectionAnswer {
     pub pages: [bool; 1024],
-    pub refusal: u8,
+    pub refusal: Option<Refusal>,
 }
 
-// What the image reader comes to.
-#[derive(Clone, Copy)]
-pub enum Reading {
-    Accepted,
-    Refused { number: u8 },
-}
-
+// What the image reader comes to: its run, and whether it accepts the image.
 #[derive(Clone, Copy)]
 pub struct Restored {
     pub run: Run,
-    pub event: Reading,
+    pub event: Result<(), Refusal>,
 }
 
 // What the image writer answers: how many bytes it wrote.
 #[derive(Clone, Copy)]
 pub struct Stored {
     pub length: usize,
-    pub refusal: u8,
+    pub refusal: Option<Refusal>,
 }
 
 impl Run {
@@ -115,7 +113,7 @@ impl Run {
             counts: counts::none(),
             layer: begin::layers_of(list, pages),
             ranks,
-            held: begin::slots_of(list, slots),
+            held: begin::padded(list, 65535),
         }
     }
 
@@ -124,17 +122,17 @@ impl Run {
         ensures { result ≡ started pages slots list.now priorities.now }
     {
         let given = priorities.len();
-        let refusal = begin::refusal(pages, slots, list, given, Run::MAX_PAGES, Run::MAX_SLOTS);
-        if refusal != 0 {
+        let tested = begin::refusal(pages, slots, list, given, Run::MAX_PAGES, Run::MAX_SLOTS);
+        if let Err(refusal) = tested {
             return Started {
                 run: Run::blank(),
-                refusal,
+                refusal: Some(refusal),
             };
         }
-        let ranks = ranking::fixed(begin::priorities_of(priorities, pages));
+        let ranks = ranking::fixed(begin::padded(priorities, 0));
         Started {
             run: Run::begun(pages, slots, list, ranks),
-            refusal: 0,
+            refusal: None,
         }
     }
 
@@ -142,17 +140,17 @@ impl Run {
     pub fn start_default(pages: usize, slots: usize, list: &[u16]) -> Started
         ensures { result ≡ started_default pages slots list.now }
     {
-        let refusal = begin::refusal(pages, slots, list, pages, Run::MAX_PAGES, Run::MAX_SLOTS);
-        if refusal != 0 {
+        let tested = begin::refusal(pages, slots, list, pages, Run::MAX_PAGES, Run::MAX_SLOTS);
+        if let Err(refusal) = tested {
             return Started {
                 run: Run::blank(),
-                refusal,
+                refusal: Some(refusal),
             };
         }
         let ranks = ranking::fixed(begin::default_priorities(pages));
         Started {
             run: Run::begun(pages, slots, list, ranks),
-            refusal: 0,
+            refusal: None,
         }
     }
 
@@ -167,8 +165,8 @@ impl Run {
         let slots = self.slots;
         let mut layer = self.layer;
         let mut held = self.held;
-        let mut near = slots::nears(&layer, &held, slots);
-        let mut seat_keys = slots::keys(keys, &held, slots);
+        let mut near = slots::by_slot(&layer, &held, slots, 0);
+        let mut seat_keys = slots::by_slot(keys, &held, slots, 0);
         let new = counts::new_page(layer[page]);
         let event = serve::step(
             &mut layer,
@@ -208,13 +206,13 @@ impl Run {
         requires keyed { (keys.now ≡ page_keys priority.now) × Narrow priority.now }
         ensures { result ≡ parts_sound pages slots counts layer.now (fixed_ranks priority.now) held.now }
     {
-        if begin::limits_refusal(pages, slots, Run::MAX_PAGES, Run::MAX_SLOTS) != 0 {
+        if begin::limits_refusal(pages, slots, Run::MAX_PAGES, Run::MAX_SLOTS).is_err() {
             return false;
         }
         if !counts::fit(counts, Run::MAX_SERVED) {
             return false;
         }
-        if !layers::no_number_from(priority, pages) {
+        if !layers::only_from(priority, pages, 0) {
             return false;
         }
         certify::tables(layer, keys, held, pages, slots)
@@ -237,12 +235,12 @@ impl Run {
         )
     }
 
-    fn refused(self, number: u8) -> Served
-        ensures { result ≡ refused self number }
+    fn refused(self, refusal: Refusal) -> Served
+        ensures { result ≡ refused self refusal }
     {
         Served {
             run: self,
-            event: Event::Refused { number },
+            event: Event::Refused(refusal),
             best: 0,
         }
     }
@@ -265,10 +263,10 @@ impl Run {
             &keys,
         );
         if !is_sound {
-            return self.refused(1);
+            return self.refused(Refusal::Unsound);
         }
-        let refusal = counts::refusal(self.pages, counts.served, page, Run::MAX_SERVED);
-        if refusal != 0 {
+        let tested = counts::refusal(self.pages, counts.served, page, Run::MAX_SERVED);
+        if let Err(refusal) = tested {
             return self.refused(refusal);
         }
         self.serve(page, &keys)
@@ -288,31 +286,33 @@ impl Run {
         }
     }
 
-    // The first refusal of a question about a page: 1, 8, or 0.
-    fn question_refusal(self, page: usize) -> u8
-        ensures { result ≡ refusal self page }
+    // The first refusal of a question about a page: 1 or 8.
+    fn question_refusal(self, page: usize) -> Result<(), Refusal>
+        ensures { told result ≡ refusal self page }
     {
         if !self.is_sound() {
-            return 1;
+            return Err(Refusal::Unsound);
         }
         if self.pages <= page {
-            return 8;
+            return Err(Refusal::NoSuchPage);
         }
-        0
+        Ok(())
     }
 
     // The layer of a page. Refusals 1, 8.
     pub fn layer(self, page: usize) -> LayerAnswer
         ensures { result ≡ layer_answer self page }
     {
-        let refusal = self.question_refusal(page);
-        if refusal != 0 {
-            return LayerAnswer { layer: 0, refusal };
+        if let Err(refusal) = self.question_refusal(page) {
+            return LayerAnswer {
+                layer: 0,
+                refusal: Some(refusal),
+            };
         }
         let layer = self.layer;
         LayerAnswer {
             layer: layer[page],
-            refusal: 0,
+            refusal: None,
         }
     }
 
@@ -320,17 +320,16 @@ impl Run {
     pub fn certain(self, page: usize) -> CertainAnswer
         ensures { result ≡ certain_answer self page }
     {
-        let refusal = self.question_refusal(page);
-        if refusal != 0 {
+        if let Err(refusal) = self.question_refusal(page) {
             return CertainAnswer {
                 certain: false,
-                refusal,
+                refusal: Some(refusal),
             };
         }
         let layer = self.layer;
         CertainAnswer {
             certain: layers::alone(&layer, self.pages, page),
-            refusal: 0,
+            refusal: None,
         }
     }
 
@@ -341,14 +340,14 @@ impl Run {
         if !self.is_sound() {
             return SelectionAnswer {
                 pages: [false; 1024],
-                refusal: 1,
+                refusal: Some(Refusal::Unsound),
             };
         }
         let layer = self.layer;
         let keys = ranking::keys(&self.ranks.priority);
         SelectionAnswer {
             pages: selection::selected(layer, keys, self.pages, self.slots),
-            refusal: 0,
+            refusal: None,
         }
     }
 
@@ -378,7 +377,7 @@ impl Run {
     pub fn in_image(image: &[u8]) -> Self
         ensures { result ≡ image_described image.now }
     {
-        if image::refusal(image, Run::MAX_PAGES, Run::MAX_SLOTS) != 0 {
+        if image::refusal(image, Run::MAX_PAGES, Run::MAX_SLOTS).is_err() {
             return Run::blank();
         }
         Run::of_image(image)
@@ -389,29 +388,28 @@ impl Run {
         ensures answer { result ≡ restored image.now }
         ensures number { reading_number result.event ≡ restore_refusal image.now }
     {
-        let number = image::refusal(image, Run::MAX_PAGES, Run::MAX_SLOTS);
-        if number != 0 {
+        if let Err(refusal) = image::refusal(image, Run::MAX_PAGES, Run::MAX_SLOTS) {
             return Restored {
                 run: Run::blank(),
-                event: Reading::Refused { number },
+                event: Err(refusal),
             };
         }
         self = Run::of_image(image);
         if !image::agree(image, self.pages, self.slots) {
             return Restored {
                 run: Run::blank(),
-                event: Reading::Refused { number: 1 },
+                event: Err(Refusal::Unsound),
             };
         }
         if !self.is_sound() {
             return Restored {
                 run: Run::blank(),
-                event: Reading::Refused { number: 1 },
+                event: Err(Refusal::Unsound),
             };
         }
         Restored {
             run: self,
-            event: Reading::Accepted,
+            event: Ok(()),
         }
     }
 
@@ -420,35 +418,53 @@ impl Run {
     pub fn request_in(mut self, image: &[u8], page: usize) -> Served
         ensures { result ≡ requested_in image.now page }
     {
-        let number = image::refusal(image, Run::MAX_PAGES, Run::MAX_SLOTS);
-        if number != 0 {
-            return Run::blank().refused(number);
+        if let Err(refusal) = image::refusal(image, Run::MAX_PAGES, Run::MAX_SLOTS) {
+            return Run::blank().refused(refusal);
         }
         self = Run::of_image(image);
         if !image::agree(image, self.pages, self.slots) {
-            return Run::blank().refused(1);
+            return Run::blank().refused(Refusal::Unsound);
         }
         let served = self.request(page);
-        let event = served.event;
-        if let Event::Refused { number } = event {
-            if number == 1 {
-                return Run::blank().refused(1);
+        if let Event::Refused(refusal) = served.event {
+            if refusal == Refusal::Unsound {
+                return Run::blank().refused(Refusal::Unsound);
             }
         }
         served
     }
 
-    // The first refusal of the image writer: 1, 16, or 0.
-    fn store_refusal(self, out: &[u8]) -> u8
-        ensures { result ≡ store_refusal self out.now }
+    // The first refusal of the image writer: 1 or 16.
+    fn store_refusal(self, out: &[u8]) -> Result<(), Refusal>
+        ensures { told result ≡ store_refusal self out.now }
     {
         if !self.is_sound() {
-            return 1;
+            return Err(Refusal::Unsound);
         }
         if out.len() < 36 + 3 * self.pages + 2 * self.slots {
-            return 16;
+            return Err(Refusal::Room);
         }
-        0
+        Ok(())
+    }
+
+    // Writes the run's image at the start of a buffer that has room for it.
+    pub fn write(&self, out: &mut [u8])
+        requires limits { (self.now.pages ≤ 1024) × (self.now.slots ≤ 64) × (image_length self.now.pages self.now.slots ≤ length out.old) }
+        requires narrow { (q : ℕ) → q < self.now.pages → slice_index_or self.now.layer q 0 ≤ 127 }
+        ensures { out.new ≡ put out.old 0 (image_of self.now) }
+    {
+        let parts = Parts {
+            pages: self.pages,
+            slots: self.slots,
+            served: self.counts.served,
+            hits: self.counts.hits,
+            misses: self.counts.misses,
+            best: self.counts.best,
+            layer: &self.layer,
+            priority: &self.ranks.priority,
+            held: &self.held,
+        };
+        parts.write(out);
     }
 
     // Writes the run's image at the start of a buffer. Refusals 1, 16: then the buffer is as it was.
@@ -456,27 +472,18 @@ impl Run {
         ensures answer { result ≡ stored self out.old }
         ensures buffer { out.new ≡ stored_bytes self out.old }
     {
-        let refusal = self.store_refusal(out);
-        if refusal != 0 {
-            return Stored { length: 0, refusal };
+        if let Err(refusal) = self.store_refusal(out) {
+            return Stored {
+                length: 0,
+                refusal: Some(refusal),
+            };
         }
         let pages = self.pages;
         let slots = self.slots;
-        image::write(
-            out,
-            pages,
-            slots,
-            self.counts.served,
-            self.counts.hits,
-            self.counts.misses,
-            self.counts.best,
-            &self.layer,
-            &self.ranks.priority,
-            &self.held,
-        );
+        self.write(out);
         Stored {
             length: 36 + 3 * pages + 2 * slots,
-            refusal: 0,
+            refusal: None,
         }
     }
 }

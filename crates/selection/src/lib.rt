@@ -16,14 +16,8 @@ fn joined(layer: [u8; 1024], set: [bool; 1024], pages: usize, j: u8) -> [bool; 1
     ensures { result ≡ marks pages (together (layers layer) j (marked set)) }
 {
     let mut out = [false; 1024];
-    let mut q = 0;
-    while q < pages {
-        if layer[q] == j {
-            out[q] = true;
-        } else {
-            out[q] = set[q];
-        }
-        q += 1;
+    for q in 0..pages {
+        out[q] = set[q] || layer[q] == j;
     }
     out
 }
@@ -34,14 +28,10 @@ fn above_of(keys: &[Key; 1024], set: &[bool; 1024], pages: usize, q: usize) -> u
     ensures { result ≡ count (λ r. marked set.now r && by_key (key_at keys.now) r q) pages }
 {
     let mut n = 0;
-    let mut r = 0;
-    while r < pages {
-        if set[r] {
-            if keys[q] < keys[r] {
-                n += 1;
-            }
+    for r in 0..pages {
+        if set[r] && keys[q] < keys[r] {
+            n += 1;
         }
-        r += 1;
     }
     n
 }
@@ -52,12 +42,8 @@ fn kept(keys: [Key; 1024], set: [bool; 1024], pages: usize, j: usize) -> [bool; 
     ensures { result ≡ marks pages (highest pages (by_key (key_at keys)) (marked set) j) }
 {
     let mut out = [false; 1024];
-    let mut q = 0;
-    while q < pages {
-        if set[q] {
-            out[q] = above_of(&keys, &set, pages, q) < j;
-        }
-        q += 1;
+    for q in 0..pages {
+        out[q] = set[q] && above_of(&keys, &set, pages, q) < j;
     }
     out
 }
@@ -68,9 +54,7 @@ pub fn selected(layer: [u8; 1024], keys: [Key; 1024], pages: usize, slots: usize
     ensures { result ≡ marks pages (chosen pages (by_key (key_at keys)) (layers layer) slots) }
 {
     let mut set = [false; 1024];
-    let mut j: usize = 0;
-    while j < slots {
-        j += 1;
+    for j in 1..slots + 1 {
         set = kept(keys, joined(layer, set, pages, j as u8), pages, j);
     }
     set

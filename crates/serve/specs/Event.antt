@@ -1,5 +1,6 @@
 -- This paper's number and values for each case of an event. Assumes nothing.
 use Rattle.std.specs.Prelude.{ℕ}
+use Rattle.refusals.specs.Numbers.{number}
 use Rattle.serve.specs.declared.Event.{Event}
 use Rattle.serve.specs.declared.Event.TheVariants.{Hit, Miss, Refused}
 
@@ -14,4 +15,4 @@ pub record Values : Type 0 where
 unfoldable pub values : Event → Values
 values (Hit s) = record { refusal = 0; miss = 0; slot = s; victim = 0 }
 values (Miss s v) = record { refusal = 0; miss = 1; slot = s; victim = v }
-values (Refused n) = record { refusal = n; miss = 0; slot = 0; victim = 0 }
+values (Refused n) = record { refusal = number n; miss = 0; slot = 0; victim = 0 }

@@ -10,6 +10,7 @@ use Rattle.paging.specs.Victim.{victim}
 use Rattle.ranking.specs.Key.{Keyed, page_of}
 use Rattle.layers.specs.Asked.{layer_at, asked}
 use Rattle.slots.specs.Slots.{no_page, seated, seat, near_of, keys_of, near_to, least_key}
+use Rattle.refusals.specs.declared.Refusal.TheVariants.{NoVictim}
 use Rattle.serve.specs.declared.Event.{Event}
 use Rattle.serve.specs.declared.Event.TheVariants.{Hit, Miss, Refused}
 
@@ -43,7 +44,7 @@ victim_in N k p o layer held = victim N k o (layer_at layer) (seated held k) p
 
 -- The event of a miss, and the slots after it: the new page takes the victim's slot. 17: a miss finds no j.
 unfoldable pub missed : List ℕ → ℕ → Option ℕ → Event
-missed held k none = Refused 17
+missed held k none = Refused NoVictim
 missed held k (some v) = Miss (slot held k v) v
 
 unfoldable pub replaced : List ℕ → ℕ → ℕ → Option ℕ → List ℕ

@@ -9,14 +9,14 @@ ghost use Rattle.slots.specs.Slots.{seated, found, near_of};
 ghost use Rattle.serve.specs.Step.{Ready, Steps, least_page, search_to};
 
 use ranking::Key;
-use slots::Found;
+use refusals::Refusal;
 
 // What a request comes to.
 #[derive(Clone, Copy)]
 pub enum Event {
     Hit { slot: usize },
     Miss { slot: usize, victim: usize },
-    Refused { number: u8 },
+    Refused(Refusal),
 }
 
 // The first layer that the search for a victim tries: the page's own, and not the one above it.
@@ -27,29 +27,26 @@ fn first_tried(own: u8) -> u8
 }
 
 // Up to which layer a miss of a page of layer i looks for its victim.
-fn search(near: &[u8; 64], slots: u8, i: u8) -> Found
+#[tactic(auto, unfolding(crate::specs::Step::search_to))]
+fn search(near: &[u8; 64], slots: u8, i: u8) -> Option<usize>
     requires { slots ≤ 64 }
     ensures { result ≡ found (search_to near.now slots i) }
 {
     if i == 0 {
-        return Found::At(slots as usize);
+        return Some(usize::from(slots));
     }
     slots::reach(near, slots, first_tried(i))
 }
 
 // The page that makes room for a page of layer i.
-fn victim<'a>(near: &'a [u8; 64], keys: &'a [Key; 64], slots: u8, i: u8) -> Found
+#[tactic(auto, using(crate::proofs::Victims::page_none, crate::proofs::Victims::page_found, crate::proofs::Victims::search_small))]
+fn victim<'a>(near: &'a [u8; 64], keys: &'a [Key; 64], slots: u8, i: u8) -> Option<u16>
     requires { slots ≤ 64 }
     ensures { result ≡ found (least_page near.now keys.now slots (search_to near.now slots i)) }
 {
-    let to = search(near, slots, i);
-    match to {
-        Found::At(j) => {
-            let key = slots::lowest(near, keys, slots as usize, (j % 256) as u8);
-            Found::At(ranking::page_of(key) as usize)
-        }
-        Found::Nowhere => Found::Nowhere,
-    }
+    let j = search(near, slots, i)?;
+    let key = slots::lowest(near, keys, usize::from(slots), j as u8);
+    Some(ranking::page_of(key))
 }
 
 // The layers after a request of `page`, which is in slot s now: of all pages, and by slots.
@@ -69,11 +66,12 @@ fn settle<'a>(
 {
     let from = layers::first_sinking(layer[page], slots);
     layers::ask(layer, pages, slots, page, from);
-    layers::sink_near(near, slots as usize, from);
+    layers::sink(near, usize::from(slots), from);
     near[s] = slots;
 }
 
 // A request of a page that is in no slot: it takes the slot of its victim. 17: a miss finds no j, or its victim no slot.
+#[tactic(auto, using(crate::proofs::Swaps::here))]
 fn swap<'a>(
     layer: &'a mut [u8; 1024],
     held: &'a mut [u16; 64],
@@ -89,22 +87,22 @@ fn swap<'a>(
     requires away { seated held.old slots page ≡ false }
     ensures { Steps pages slots page layer.old held.old keys.old key result layer.new held.new near.new keys.new }
 {
-    let p = page as usize;
-    let out = victim(near, keys, slots, layer[p]);
-    let Found::At(v) = out else {
-        return Event::Refused { number: 17 };
+    let p = usize::from(page);
+    let Some(v) = victim(near, keys, slots, layer[p]) else {
+        return Event::Refused(Refusal::NoVictim);
     };
-    let place = slots::find(held, slots as usize, (v % 65536) as u16);
-    let Found::At(s) = place else {
-        return Event::Refused { number: 17 };
+    let Some(s) = slots::find(held, usize::from(slots), v) else {
+        return Event::Refused(Refusal::NoVictim);
     };
     held[s] = page;
     keys[s] = key;
     settle(layer, near, pages, slots, p, s);
-    Event::Miss { slot: s, victim: v }
+    let victim = usize::from(v);
+    Event::Miss { slot: s, victim }
 }
 
 // A request of `page`, whose key after it is `key`: the event, and the arrays after it.
+#[tactic(auto, using(crate::proofs::Swaps::here, crate::proofs::Swaps::away))]
 pub fn step<'a>(
     layer: &'a mut [u8; 1024],
     held: &'a mut [u16; 64],
@@ -119,9 +117,8 @@ pub fn step<'a>(
     requires nears { (near.old ≡ near_of layer.old held.old slots) × (length keys.old ≡ 64) }
     ensures { Steps pages slots page layer.old held.old keys.old key result layer.new held.new near.new keys.new }
 {
-    let p = page as usize;
-    let place = slots::find(held, slots as usize, page);
-    let Found::At(s) = place else {
+    let p = usize::from(page);
+    let Some(s) = slots::find(held, usize::from(slots), page) else {
         return swap(layer, held, near, keys, pages, slots, page, key);
     };
     keys[s] = key;

@@ -1,5 +1,5 @@
 -- What one turn of a loop over slots or layers does to what its invariant says. Assumes nothing.
-use Rattle.std.specs.Prelude.{if◌then◌else◌}
+use Rattle.std.specs.Prelude.{Some, None, if◌then◌else◌}
 use Rattle.paging.specs.Count.{count_most as count_at_most}
 use mathlib.Core.Bool.{Bool, true, false, ◌&&◌}
 use mathlib.Core.List.{List}
@@ -11,30 +11,30 @@ use Prim.Native.Nat.{ℕ, suc, ◌+◌, min, ◌≤◌, ◌<◌, ◌-◌, max}
 use native.Mathlib.Numerals.{add-one}
 use native.Mathlib.Omega.{arith}
 use lib.Dec.{eqb}
-use lib.ListN.{length, get_or, set, replicate, get_or-eq_default}
+use Rattle.std.proofs.lemmas.List.{get_or-take}
+use lib.ListN.{take, length, length-take, get_or, set, replicate, get_or-eq_default}
 use borrow.Author.Tests.{eqb-true, eq-eqb, ne_eqb, le-leb, lt-leb}
 use Rattle.paging.specs.Sets.{◌=?◌, ◌≤?◌, bit, count, or_else, first, listed}
 use Rattle.paging.specs.Tests.{clash, isnt, and_in, and_right, le_or_lt}
 use Rattle.paging.specs.Words.{first_some, first_is, first_same}
 use Rattle.ranking.specs.Key.{no_key}
-use Rattle.slots.specs.declared.Found.TheVariants.{At, Nowhere}
-use Rattle.slots.specs.Slots.{no_page, seat, found, near_of, keys_of, near_to, tally_of, least_key}
+use Rattle.slots.specs.Slots.{no_page, seat, found, entries_of, near_to, tally_of, least_key}
 use Rattle.slots.specs.Laws.{near_most, near_more}
-use Rattle.paging.specs.Tables.{entry_any, listed_entry, listed_set, table_more}
+use Rattle.paging.specs.Tables.{entry_any, listed_entry, listed_set, fill_more}
 
 -- ---- a search: nothing below i is what is looked for
 
 abbrev pub Passed : (ℕ → Bool) → ℕ → Type 0
 Passed f i = (j : ℕ) → j < i → f j ≡ false
 
-pub found_here : (n : ℕ) (f : ℕ → Bool) (i : ℕ) → i < n → Passed f i → f i ≡ true → At i ≡ found (first n f)
+pub found_here : (n : ℕ) (f : ℕ → Bool) (i : ℕ) → i < n → Passed f i → f i ≡ true → Some i ≡ found (first n f)
 found_here n f i l passed e =
     ap found (sym (first_is n f i (record { below = l; member = e; none_before = passed })))
 
-pub found_none : (n : ℕ) (f : ℕ → Bool) (i : ℕ) → n ≤ i → Passed f i → Nowhere ≡ found (first n f)
+pub found_none : (n : ℕ) (f : ℕ → Bool) (i : ℕ) → n ≤ i → Passed f i → None ≡ found (first n f)
 found_none n f i l passed = go (first n f) refl
   where
-    go : (x : Option ℕ) → Path (Option ℕ) (first n f) x → Nowhere ≡ found (first n f)
+    go : (x : Option ℕ) → Path (Option ℕ) (first n f) x → None ≡ found (first n f)
     go none e = ap found (sym e)
     go (some j) e =
         let w = first_some n f j e in
@@ -130,43 +130,58 @@ module _ (h : List ℕ) (q : ℕ) where
       record { small = small; slot = soonest_next (64 - left) s (64 - r) entry i (omega arith) ee w.slot slot }
 
   -- all slots passed
-  soonest_here : (at k : ℕ) → k ≤ 64 → at ≡ soonest h q k → at < 64 → At at ≡ found (seat h k q)
+  soonest_here : (at k : ℕ) → k ≤ 64 → at ≡ soonest h q k → at < 64 → Some at ≡ found (seat h k q)
   unfolding soonest
   soonest_here at k l e low = go (seat h k q) refl
     where
-      go : (x : Option ℕ) → Path (Option ℕ) (seat h k q) x → At at ≡ found (seat h k q)
+      go : (x : Option ℕ) → Path (Option ℕ) (seat h k q) x → Some at ≡ found (seat h k q)
       go none f = let z : at ≡ 64 = e ∙ ap (λ (y : Option ℕ). Option.get_or y 64) f in absurd (omega arith)
       go (some t) f = let z : at ≡ t = e ∙ ap (λ (y : Option ℕ). Option.get_or y 64) f in rw (f, z)
 
-  soonest_nowhere : (at k : ℕ) → k ≤ 64 → at ≡ soonest h q k → 64 ≤ at → Nowhere ≡ found (seat h k q)
+  soonest_nowhere : (at k : ℕ) → k ≤ 64 → at ≡ soonest h q k → 64 ≤ at → None ≡ found (seat h k q)
   unfolding soonest seat
   soonest_nowhere at k l e high = go (first k test) refl
     where
-      go : (x : Option ℕ) → Path (Option ℕ) (first k test) x → Nowhere ≡ found (first k test)
+      go : (x : Option ℕ) → Path (Option ℕ) (first k test) x → None ≡ found (first k test)
       go none f = ap found (sym f)
       go (some t) f =
           let z : at ≡ t = e ∙ ap (λ (y : Option ℕ). Option.get_or y 64) f in
           absurd (omega (arith, (first_some k test t f).below))
 
-  pub left_here : (left k : ℕ) → k ≤ 64 → Left k left → 0 < left → At (64 - left) ≡ found (seat h k q)
+  pub left_here : (left k : ℕ) → k ≤ 64 → Left k left → 0 < left → Some (64 - left) ≡ found (seat h k q)
   left_here left k l w pos = soonest_here (64 - left) k l w.slot (omega arith)
 
-  pub left_nowhere : (left k : ℕ) → k ≤ 64 → Left k left → left ≤ 0 → Nowhere ≡ found (seat h k q)
-  left_nowhere left k l w zero_is = soonest_nowhere (64 - left) k l w.slot (omega arith)
+  pub left_nowhere : (left k : ℕ) → k ≤ 64 → Left k left → left ≤ 0 → None ≡ found (seat h k q)
+  left_nowhere left k l w none_left = soonest_nowhere (64 - left) k l w.slot (omega arith)
 
 -- ---- one slot more
 
-pub near_next :
-    (layer h near : List ℕ) (s p : ℕ) → s < 64 → p ≡ get_or h s no_page → near ≡ near_of layer h s →
-    set near s (get_or layer p 0) ≡ near_of layer h (s + 1)
-unfolding near_of
-near_next layer h near s p l ep en = rw (add-one s, en, ep) (table_more 64 s 0 (λ s. get_or layer (get_or h s no_page) 0) l)
+-- what a pass over the first k entries reads at its turn i, and where it ends
+pub record Taken (k : ℕ) (l : List ℕ) (i : ℕ) : Type 0 where
+  pub below : i < k
+  pub inside : i < length l
+  pub same : get_or (take k l) i 0 ≡ get_or l i 0
 
-pub keys_next :
-    (key : ℕ → ℕ) (h keys : List ℕ) (s p r : ℕ) → s < 64 → p ≡ get_or h s no_page → r ≡ key p →
-    keys ≡ keys_of key h s → set keys s r ≡ keys_of key h (s + 1)
-unfolding keys_of
-keys_next key h keys s p r l ep er ek = rw (add-one s, ek, er, ep) (table_more 64 s 0 (λ s. key (get_or h s no_page)) l)
+pub taken : (k : ℕ) (l : List ℕ) (i : ℕ) → i < length (take k l) → Taken k l i
+taken k l i h =
+    let below : i < k = omega (arith, length-take k l) in
+    record { below = below; inside = omega (arith, length-take k l); same = get_or-take k l i 0 below }
+
+pub all_taken : (k : ℕ) (l : List ℕ) (i : ℕ) → k ≤ length l → i ≤ length (take k l) → length (take k l) ≤ i → i ≡ k
+all_taken k l i f a b = omega (arith, length-take k l)
+
+pub entries_next :
+    {A : Type 0} (list : List A) (h : List ℕ) (absent x : A) (entries : List A) (s p : ℕ) →
+    s < 64 → p ≡ get_or h s 0 → PageAt h s → length list ≡ 1024 → x ≡ get_or list p x → entries ≡ entries_of list h s absent →
+    set entries s x ≡ entries_of list h (s + 1) absent
+unfolding entries_of
+entries_next list h absent x entries s p l ep w size ex en = rw en (fill_more absent 64 s (λ i. get_or list (get_or h i no_page) absent) _ x l refl here)
+  where
+    same : p ≡ get_or h s no_page
+    same = ep ∙ w.same
+
+    here : x ≡ get_or list (get_or h s no_page) absent
+    here = ex ∙ (entry_any list p x absent (omega (arith, same, w.page, size)) ∙ ap (λ (q : ℕ). get_or list q absent) same)
 
 pub count_next :
     (near : List ℕ) (j s n r : ℕ) → n ≡ near_to near s j → r ≡ bit (get_or near s 0 ≤? j) → n + r ≡ near_to near (s + 1) j

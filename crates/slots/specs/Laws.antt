@@ -1,10 +1,11 @@
 -- What callers use of the slots: what stands in the tables by slots, where a cached page is, cached pages counted by their
 -- slots, the least key. Assumes nothing.
-use Rattle.std.specs.Prelude.{true, false, ◌&&◌, List, ◌⊎◌, ◌≡◌, length, nat_eq, nat_le, slice_index_or, if◌then◌else◌}
+use Rattle.std.specs.Prelude.{Some, None, true, false, ◌&&◌, List, ◌⊎◌, ◌≡◌, length, nat_eq, nat_le, slice_index_or, if◌then◌else◌}
 use Rattle.std.proofs.Math.Logic.{inl, ⊎_elim}
 use Rattle.std.proofs.Common.{inr, sym, ap, ◌∙◌}
 use Rattle.std.proofs.Math.Option.{Option, none, some}
 use Rattle.std.proofs.Math.Path.{Path, refl}
+use Rattle.std.proofs.lemmas.Option.{none-some, same_Some}
 use Prim.Native.Nat.{ℕ, zero, suc, ◌+◌, min, ◌≤◌, ◌<◌}
 use native.Mathlib.Omega.{arith}
 use borrow.Author.Tests.{eqb-true, eq-eqb, ne_eqb, leb-true, le-leb, lt-leb}
@@ -13,8 +14,8 @@ use Rattle.paging.specs.Tests.{truth, clash, isnt, and_in, and_left, and_right, 
 use Rattle.paging.specs.Count.{count_most, count_none, count_same, count_minus}
 use Rattle.paging.specs.Words.{any_in, any_true, first_none, first_some, first_found}
 use Rattle.paging.specs.Tables.{listed_entry, table_at, table_length}
-use Rattle.ranking.specs.Key.{no_key}
-use Rattle.slots.specs.Slots.{no_page, seated, seat, near_of, keys_of, near_to, tally_of, least_key}
+use Rattle.ranking.specs.Key.{no_key, key_at}
+use Rattle.slots.specs.Slots.{no_page, seated, seat, found, entries_of, near_of, keys_of, near_to, tally_of, least_key}
 
 -- ---- the tables by slots
 
@@ -35,6 +36,15 @@ module _ (key : ℕ → ℕ) (h : List ℕ) (k : ℕ) where
   pub keys_length : k ≤ 64 → length (keys_of key h k) ≡ 64
   unfolding keys_of
   keys_length l = table_length 64 k 0 (λ s. key (slice_index_or h s no_page)) l
+
+-- each is a table of the pages, read by slots
+pub near_entries : (layer h : List ℕ) (k : ℕ) → entries_of layer h k 0 ≡ near_of layer h k
+unfolding entries_of near_of
+near_entries layer h k = refl
+
+pub keys_entries : (pages h : List ℕ) (k : ℕ) → entries_of pages h k 0 ≡ keys_of (key_at pages) h k
+unfolding entries_of keys_of
+keys_entries pages h k = refl
 
 -- no more slots are near than there are
 pub near_most : (near : List ℕ) (k j : ℕ) → near_to near k j ≤ k
@@ -109,6 +119,16 @@ module _ (h : List ℕ) (k q : ℕ) where
       let (t, ex) = seat_found (seated_in s l e) in
       let w = seat_some t ex in
       ex ∙ ap some (once t s w.0 l (w.1 ∙ sym e))
+
+-- ---- what an answer of a search says
+
+pub found_at : (x : Option ℕ) (j : ℕ) → Some j ≡ found x → Path (Option ℕ) x (some j)
+found_at none j e = absurd (none-some j (sym e))
+found_at (some i) j e = ap some (sym (same_Some j i e))
+
+pub found_none : (x : Option ℕ) → None ≡ found x → Path (Option ℕ) x none
+found_none none e = refl
+found_none (some i) e = absurd (none-some i e)
 
 -- ---- cached pages are counted by their slots
 

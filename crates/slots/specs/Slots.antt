@@ -1,10 +1,9 @@
 -- The slots: entry s of a list h is the page in slot s. By slots also the layer and the key of the page in each. Assumes nothing.
-use Rattle.std.specs.Prelude.{List, ℕ, zero, suc, min, slice_index_or, if◌then◌else◌}
+use Rattle.std.specs.Prelude.{Some, None, List, ℕ, zero, suc, min, slice_index_or, if◌then◌else◌}
+use Rattle.std.specs.Prelude as rust
 use Rattle.std.proofs.Math.Option.{Option, none, some}
 use Rattle.paging.specs.Sets.{◌=?◌, ◌≤?◌, Pages, count, any, first, listed, table}
 use Rattle.ranking.specs.Key.{no_key}
-use Rattle.slots.specs.declared.Found.{Found}
-use Rattle.slots.specs.declared.Found.TheVariants.{At, Nowhere}
 
 -- What stands in a slot that holds no page.
 abbrev pub no_page : ℕ
@@ -18,9 +17,14 @@ seated h k q = any k (λ s. slice_index_or h s no_page =? q)
 unfoldable pub seat : List ℕ → ℕ → ℕ → Option ℕ
 seat h k q = first k (λ s. slice_index_or h s no_page =? q)
 
-abbrev pub found : Option ℕ → Found
-found (some s) = At s
-found none = Nowhere
+-- A number that a search found, or that there is none, as code answers it.
+abbrev pub found : Option ℕ → rust.Option ℕ
+found (some s) = Some s
+found none = None
+
+-- The entry that a table of the pages has for the page in each of the first k slots; `absent` for a slot that holds no page.
+unfoldable pub entries_of : {A : Type 0} → List A → List ℕ → ℕ → A → List A
+entries_of entries h k absent = table 64 k absent (λ s. slice_index_or entries (slice_index_or h s no_page) absent)
 
 -- The layer of the page in each of the first k slots, and its key. `key q` is the key of page q.
 unfoldable pub near_of : List ℕ → List ℕ → ℕ → List ℕ

@@ -1,19 +1,12 @@
 // The slots of a run: where a page is, and the searches of a miss over the layers and keys of the pages in them. Assumes nothing.
 #![tactic(auto)]
 
-ghost use Rattle.std.specs.Prelude.{◌≡◌, ◌&&◌, ℕ, suc, ◌<◌, ◌≤◌, min, max, slice_index_or, if◌then◌else◌};
-ghost use Rattle.paging.specs.Sets.{first, bit, ◌=?◌, ◌≤?◌, table};
-ghost use Rattle.ranking.specs.Key.{no_key, key_at};
-ghost use Rattle.slots.specs.Slots.{no_page, seat, found, near_of, keys_of, near_to, tally_of, least_key, leasts_of};
+ghost use Rattle.std.specs.Prelude.{◌≡◌, ◌&&◌, ℕ, suc, ◌<◌, ◌≤◌, slice_index_or, if◌then◌else◌};
+ghost use Rattle.paging.specs.Sets.{first, ◌=?◌, ◌≤?◌, table};
+ghost use Rattle.ranking.specs.Key.{no_key};
+ghost use Rattle.slots.specs.Slots.{no_page, seat, found, entries_of, near_to, tally_of, least_key, leasts_of};
 
 use ranking::Key;
-
-// A number that a search found, or that there is none.
-#[derive(Clone, Copy)]
-pub enum Found {
-    At(usize),
-    Nowhere,
-}
 
 // How many layers `reach` counts afresh.
 const AFRESH: u8 = 4;
@@ -25,68 +18,41 @@ fn left_if(entry: u16, page: u16, rest: u8) -> u8
     if entry == page { rest } else { 0 }
 }
 
-// The higher of two numbers.
-fn higher(a: u8, b: u8) -> u8
-    ensures { result ≡ max a b }
-{
-    if a < b { b } else { a }
-}
-
 // The slot of a page, the first that holds it. A flat pass over all slots is faster than one that stops where it is found; counted
 // from the end, a slot that does not hold the page is 0, which a compiler makes of the comparison by itself.
-pub fn find(held: &[u16; 64], slots: usize, page: u16) -> Found
+pub fn find(held: &[u16; 64], slots: usize, page: u16) -> Option<usize>
     requires { slots ≤ 64 }
     ensures { result ≡ found (seat held.now slots page) }
 {
-    // A slice knows its length: a slot below 64 is an entry of the list.
-    let entries: &[u16] = held;
     let mut left: u8 = 0;
     let mut rest: u8 = 64;
-    let mut s = 0;
-    while s < slots {
-        left = higher(left, left_if(entries[s], page, rest));
+    for entry in &held[..slots] {
+        left = left.max(left_if(*entry, page, rest));
         rest -= 1;
-        s += 1;
     }
-    if 0 < left {
-        return Found::At((64 - left) as usize);
+    if left == 0 {
+        return None;
     }
-    Found::Nowhere
+    Some(usize::from(64 - left))
 }
 
-// By slots, the layer of the page in each.
-pub fn nears<'a>(layer: &'a [u8; 1024], held: &'a [u16; 64], slots: usize) -> [u8; 64]
+// By slots, the entry that a table of the pages has for the page in each; `none` for a slot that holds no page.
+pub fn by_slot<'a, T: Copy>(
+    table: &'a [T; 1024],
+    held: &'a [u16; 64],
+    slots: usize,
+    none: T,
+) -> [T; 64]
     requires { (slots ≤ 64) × ((s : ℕ) → s < slots → slice_index_or held.now s no_page < 1024) }
-    ensures { result ≡ near_of layer.now held.now slots }
+    ensures { result ≡ entries_of table.now held.now slots none }
 {
-    let mut near = [0u8; 64];
-    let mut s = 0;
-    while s < slots {
-        near[s] = layer[held[s] as usize];
-        s += 1;
+    // A slice is known to fit into memory, whatever the type of its entries.
+    let list: &[T] = table;
+    let mut entries = [none; 64];
+    for s in 0..slots {
+        entries[s] = list[usize::from(held[s])];
     }
-    near
-}
-
-// By slots, the key of the page in each, where `pages` has the key of each page.
-pub fn keys<'a>(pages: &'a [Key; 1024], held: &'a [u16; 64], slots: usize) -> [Key; 64]
-    requires { (slots ≤ 64) × ((s : ℕ) → s < slots → slice_index_or held.now s no_page < 1024) }
-    ensures { result ≡ keys_of (key_at pages.now) held.now slots }
-{
-    let mut keys: [Key; 64] = [0; 64];
-    let mut s = 0;
-    while s < slots {
-        keys[s] = pages[held[s] as usize];
-        s += 1;
-    }
-    keys
-}
-
-// 1 for a layer up to j, else 0.
-fn within(near: u8, j: u8) -> u8
-    ensures { result ≡ bit (near ≤? j) }
-{
-    if near <= j { 1 } else { 0 }
+    entries
 }
 
 // How many of the first slots hold a page of a layer up to j.
@@ -96,12 +62,10 @@ fn count_to(near: &[u8; 64], slots: usize, j: u8) -> usize
 {
     // in bytes, which the compiler adds up sixteen at a time
     let mut n: u8 = 0;
-    let mut s = 0;
-    while s < slots {
-        n += within(near[s], j);
-        s += 1;
+    for layer in &near[..slots] {
+        n += u8::from(*layer <= j);
     }
-    n as usize
+    usize::from(n)
 }
 
 // How many of the first slots hold a page of each layer.
@@ -110,11 +74,9 @@ fn tally(near: &[u8; 64], slots: usize) -> [u8; 256]
     ensures { result ≡ tally_of near.now slots }
 {
     let mut sums = [0u8; 256];
-    let mut s = 0;
-    while s < slots {
-        let j = layers::wide(near[s]);
+    for layer in &near[..slots] {
+        let j = layers::wide(*layer);
         sums[j] += 1;
-        s += 1;
     }
     sums
 }
@@ -125,67 +87,60 @@ pub fn counts(near: &[u8; 64], slots: u8) -> [u8; 65]
     requires { slots ≤ 64 }
     ensures { result ≡ table 65 (suc slots) 0 (near_to near.now slots) }
 {
-    let k = slots as usize;
+    let k = usize::from(slots);
     let sums = tally(near, k);
     let mut counts = [0u8; 65];
     let mut n = 0;
-    let mut j = 0;
-    while j <= k {
+    for j in 0..k + 1 {
         n += sums[j];
         counts[j] = n;
-        j += 1;
     }
     counts
 }
 
 // As `reach`, by the sums of the layers: each j costs one addition.
-fn reach_on(near: &[u8; 64], slots: u8, from: u8) -> Found
+// Kept as a loop that leaves by break with j as its value: document 01's form of a search over the layers from one upward.
+fn reach_on(near: &[u8; 64], slots: u8, from: u8) -> Option<usize>
     requires { slots ≤ 64 }
     ensures { result ≡ found (first (suc slots) (λ j. from ≤? j && near_to near.now slots j =? j)) }
 {
-    let sums = tally(near, slots as usize);
-    let mut n = count_to(near, slots as usize, from);
+    let sums = tally(near, usize::from(slots));
+    let mut n = count_to(near, usize::from(slots), from);
     let mut j = from;
     let full = loop {
         if slots < j {
-            return Found::Nowhere;
+            return None;
         }
-        if n == j as usize {
+        if n == usize::from(j) {
             break j;
         }
         j += 1;
-        n += layers::wide(sums[j as usize]);
+        n += layers::wide(sums[usize::from(j)]);
     };
-    Found::At(full as usize)
+    Some(usize::from(full))
 }
 
 // The smallest j from `from` on, and at most `slots`, such that j slots hold a page of a layer up to j. A few layers are
 // counted afresh, which is faster than their sums; where the search goes on, it goes on by the sums, so that it is O(k).
-pub fn reach(near: &[u8; 64], slots: u8, from: u8) -> Found
+// Kept as a loop that leaves by break with j as its value: document 01's form of a search over the layers from one upward.
+pub fn reach(near: &[u8; 64], slots: u8, from: u8) -> Option<usize>
     requires { slots ≤ 64 }
     ensures { result ≡ found (first (suc slots) (λ j. from ≤? j && near_to near.now slots j =? j)) }
 {
     let mut j = from;
     let full = loop {
         if j > slots {
-            return Found::Nowhere;
+            return None;
         }
         if AFRESH <= j - from {
             return reach_on(near, slots, j);
         }
-        if count_to(near, slots as usize, j) == j as usize {
+        if count_to(near, usize::from(slots), j) == usize::from(j) {
             break j;
         }
         j += 1;
     };
-    Found::At(full as usize)
-}
-
-// The smaller of two numbers.
-fn smaller(a: Key, b: Key) -> Key
-    ensures { result ≡ min a b }
-{
-    if b < a { b } else { a }
+    Some(usize::from(full))
 }
 
 // The key of a page of a layer up to j; of any other the number that no key reaches.
@@ -201,10 +156,8 @@ pub fn lowest<'a>(near: &'a [u8; 64], keys: &'a [Key; 64], slots: usize, j: u8) 
     ensures { result ≡ least_key near.now keys.now j slots }
 {
     let mut least: Key = ranking::NO_KEY;
-    let mut s = 0;
-    while s < slots {
-        least = smaller(least, pick(near[s], j, keys[s]));
-        s += 1;
+    for s in 0..slots {
+        least = least.min(pick(near[s], j, keys[s]));
     }
     least
 }
@@ -215,11 +168,9 @@ fn leasts<'a>(near: &'a [u8; 64], keys: &'a [Key; 64], slots: usize) -> [Key; 25
     ensures { result ≡ leasts_of near.now keys.now slots }
 {
     let mut least: [Key; 256] = [ranking::NO_KEY; 256];
-    let mut s = 0;
-    while s < slots {
+    for s in 0..slots {
         let l = layers::wide(near[s]);
-        least[l] = smaller(least[l], keys[s]);
-        s += 1;
+        least[l] = least[l].min(keys[s]);
     }
     least
 }
@@ -229,15 +180,13 @@ pub fn lows<'a>(near: &'a [u8; 64], keys: &'a [Key; 64], slots: u8) -> [Key; 65]
     requires { slots ≤ 64 }
     ensures { result ≡ table 65 (suc slots) 0 (λ j. least_key near.now keys.now j slots) }
 {
-    let k = slots as usize;
+    let k = usize::from(slots);
     let least = leasts(near, keys, k);
     let mut lows: [Key; 65] = [0; 65];
     let mut low: Key = ranking::NO_KEY;
-    let mut j = 0;
-    while j <= k {
-        low = smaller(low, least[j]);
+    for j in 0..k + 1 {
+        low = low.min(least[j]);
         lows[j] = low;
-        j += 1;
     }
     lows
 }

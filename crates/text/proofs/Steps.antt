@@ -1,34 +1,59 @@
--- What a turn of each loop and a call after a call leave, in the contracts' words, and how long a line is by its parts.
--- Assumes nothing.
+-- How many digits a number has, and what a turn of the loop that writes them leaves. Assumes nothing.
 use mathlib.Core.List.{List, [], ◌∷◌, ◌++◌, append_assoc}
-use mathlib.Core.Path.{◌≡◌, refl, sym, ap, ◌∙◌}
-use Prim.Native.Nat.{ℕ, zero, suc, ◌+◌, ◌-◌, ◌/◌, ◌%◌, ◌≤◌, ◌<◌}
-use native.Mathlib.Numerals.{add-one}
+use mathlib.Core.Bool.{Bool}
+use mathlib.Core.Path.{◌≡◌, refl, sym}
+use Prim.Native.Nat.{ℕ, zero, suc, ◌+◌, ◌*◌, ◌-◌, ◌/◌, ◌%◌, ◌^◌, ◌≤◌, ◌<◌}
 use native.Mathlib.Omega.{arith}
-use lib.ListN.{length, get_or, set, take, drop, length-append}
-use lib.Seq.{drop-cons, drop-set-lt, get_or-set_same, length-take-le, lt-length-set, take_all, take-set-le, take-suc, set_split}
+use Rattle.std.proofs.Common.{pow-suc, drop-drop}
+use borrow.Rule.Slice.PartMut.{put_mid}
+use lib.ListN.{length, set, drop, length-append}
+use lib.Seq.{drop-cons, drop-set-lt, get_or-set_same, lt-length-set, take-set-le}
 use Rattle.words.specs.Words.{put}
-use Rattle.words.specs.Laws.{put_none, put_then}
+use Rattle.words.specs.Laws.{put_none}
+use Rattle.std.specs.Prelude.{Option, Some, None, IfSome, IfNone, unwrap_or}
 use Rattle.serve.specs.declared.Event.{Event}
-use Rattle.serve.specs.declared.Event.TheVariants.{Hit, Miss, Refused}
-use Rattle.text.specs.Text.{digits_to, decimal, then_number, then_entry, event_line, first_line, last_line, refused_line}
-use Rattle.text.specs.Laws.{digits_step, digits_enough}
+use Rattle.text.specs.Text.{digits_to, decimal, event_line}
+use Rattle.text.specs.Told.{told_length, told_room}
+use Rattle.text.specs.Telling.{Telling, begin}
 
--- ---- the loop that counts digits: a digit more, and all
+-- ---- how many digits a number has, by the power of ten that is not above it
 
-pub count_more : (n : ℕ) → 0 < n → n ≤ 18446744073709551615 → length (digits_to 20 n) ≡ 1 + length (digits_to 20 (n / 10))
-count_more n l h =
-    rw (digits_step 19 n l, length-append, digits_enough 19 (n / 10) (omega arith)) (omega arith)
-
-pub count_first : (n : ℕ) → n ≤ 18446744073709551615 → 1 + length (digits_to 20 (n / 10)) ≡ length (decimal n)
-unfolding decimal digits_to
-count_first zero h = refl
-count_first (suc n) h = sym (count_more (suc n) (omega arith) h)
-
-pub count_last : (n : ℕ) → n ≤ 0 → length (digits_to 20 n) ≡ 0
+digits_none : (w n : ℕ) → n ≡ 0 → length (digits_to w n) ≡ 0
 unfolding digits_to
-count_last zero h = refl
-count_last (suc n) h = absurd (omega arith)
+digits_none zero n e = refl
+digits_none (suc w) zero e = refl
+digits_none (suc w) (suc n) e = absurd (omega arith)
+
+digits_count : (w k n : ℕ) → k < w → 10 ^ k ≤ n → n < 10 * 10 ^ k → length (digits_to w n) ≡ suc k
+unfolding digits_to
+digits_count zero k n l h g = absurd (omega arith)
+digits_count (suc w) zero zero l h g = absurd (omega arith)
+digits_count (suc w) zero (suc n) l h g = rw length-append (omega (arith, digits_none w (suc n / 10) (omega arith)))
+digits_count (suc w) (suc k) zero l h g =
+    let low : 10 ^ k * 10 ≤ 0 = rw pow-suc at h in
+    let high : 0 < 10 * (10 ^ k * 10) = rw pow-suc at g in
+    absurd (omega (arith, digits_count w k 0 (omega arith) (omega arith) (omega arith), digits_none w 0 refl))
+digits_count (suc w) (suc k) (suc n) l h g =
+    let low : 10 ^ k * 10 ≤ suc n = rw pow-suc at h in
+    let high : suc n < 10 * (10 ^ k * 10) = rw pow-suc at g in
+    rw length-append (omega (arith, digits_count w k (suc n / 10) (omega arith) (omega arith) (omega arith)))
+
+pub decimal_count : (k n : ℕ) → k < 20 → 10 ^ k ≤ n → n < 10 * 10 ^ k → 1 + k ≡ length (decimal n)
+unfolding decimal
+decimal_count k zero l h g = absurd (omega (arith, digits_count 20 k 0 l h g, digits_none 20 0 refl))
+decimal_count k (suc n) l h g = omega (arith, digits_count 20 k (suc n) l h g)
+
+pub decimal_zero : (n : ℕ) → n ≡ 0 → 1 ≡ length (decimal n)
+unfolding decimal
+decimal_zero zero e = refl
+decimal_zero (suc n) e = absurd (omega arith)
+
+pub count_told :
+    (n : ℕ) (o : Option ℕ) →
+    IfNone o (n ≡ 0) → IfSome o (λ k. 10 ^ k ≤ n) → IfSome o (λ k. n < 10 * 10 ^ k) → IfSome o (λ k. k < 20) →
+    1 + unwrap_or o 0 ≡ length (decimal n)
+count_told n None e h g l = decimal_zero n e
+count_told n (Some k) e h g l = decimal_count k n l h g
 
 -- ---- the loop that writes digits from the last on
 
@@ -95,119 +120,19 @@ module _ (s : List ℕ) (at : ℕ) where
       let none : i - at ≡ 0 = omega arith in
       rw none (put_none s at)
 
--- ---- the loop that writes a word
+-- ---- a line that is told, by its event
 
-set_put : (s : List ℕ) (i d : ℕ) → i < length s → set s i d ≡ put s i (d ∷ [])
+pub begin_event :
+    (t w : Bool) (before : List ℕ) (at page best : ℕ) (event same : Event) →
+    event ≡ same →
+    at + told_length t (event_line page event best) ≤ told_room t w (length before) →
+    Telling t w before at (event_line page same best) before at (event_line page same best)
+begin_event t w before at page best event same e h = begin t w before at (event_line page same best) (rw e at h)
+
+-- ---- a word that is copied in
+
+pub copied :
+    (s : List ℕ) (at k : ℕ) (word piece : List ℕ) →
+    k ≡ length word → piece ≡ word → put_mid at k s piece ≡ put s at word
 unfolding put
-set_put s i d l = rw (add-one i) (set_split s i d l)
-
-module _ (s : List ℕ) (at : ℕ) (word : List ℕ) where
-  pub word_more :
-      (i : ℕ) (t : List ℕ) →
-      i < length word →
-      at + i < length s →
-      length t ≡ length s →
-      t ≡ put s at (take i word) →
-      set t (at + i) (get_or word i 0) ≡ put s at (take (i + 1) word)
-  word_more i t l h e p =
-      let size : length (take i word) ≡ i = length-take-le i word (omega arith) in
-      let d : ℕ = get_or word i 0 in
-      put_then s t (set t (at + i) d) at (at + i) (take i word) (d ∷ []) p (set_put t (at + i) d (omega arith)) (omega arith) (omega arith)
-      ∙ ap (put s at) (rw (add-one i) (sym (take-suc word i 0 l)))
-
-  pub word_all : (i : ℕ) (t : List ℕ) → length word ≤ i → t ≡ put s at (take i word) → t ≡ put s at word
-  word_all i t l p = p ∙ rw (take_all i word l)
-
--- ---- a call after a call
-
--- `last` is s with the text put in at an offset, and r is the offset behind it
-pub record Written (s : List ℕ) (at : ℕ) (text : List ℕ) (r : ℕ) (last : List ℕ) : Type 0 where
-  pub offset : r ≡ at + length text
-  pub same : last ≡ put s at text
-
-pub then :
-    {s t last : List ℕ} {at next r : ℕ} {a b : List ℕ} →
-    Written s at a next t →
-    next ≤ length s →
-    Written t next b r last →
-    Written s at (a ++ b) r last
-then {s} {t} {last} {at} {next} {r} {a} {b} v h w =
-    record { offset = rw length-append (omega arith); same = put_then s t last at next a b v.same w.same v.offset h }
-
-module _ (s : List ℕ) (at : ℕ) (text : List ℕ) (r : ℕ) (last : List ℕ) where
-  -- as a call tells it
-  pub word : (r ≡ at + length text) × (last ≡ put s at text) → Written s at text r last
-  word e = record { offset = e.0; same = e.1 }
-
-  -- as a contract asks it
-  pub told : Written s at text r last → (r ≡ at + length text) × (last ≡ put s at text)
-  told w = (w.offset, w.same)
-
--- ---- how long a line is, part by part in the order of the calls
-
-pub hit_sum :
-    (page slot best : ℕ) (event : Event) →
-    event ≡ Hit slot →
-    length (event_line page event best) ≡ 3 + length (then_number page) + length (then_number slot) + length (then_number best) + 1
-unfolding event_line
-hit_sum page slot best event e = rw e (simp length-append (omega arith))
-
-pub miss_sum :
-    (page slot victim best : ℕ) (event : Event) →
-    event ≡ Miss slot victim →
-    length (event_line page event best)
-    ≡ 4 + length (then_number page) + length (then_number slot) + length (then_number victim) + length (then_number best) + 1
-unfolding event_line
-miss_sum page slot victim best event e = rw e (simp length-append (omega arith))
-
-pub refused_sum :
-    (page number best : ℕ) (event : Event) →
-    event ≡ Refused number →
-    length (event_line page event best) ≡ 7 + length (then_number page) + length (then_number number) + 1
-unfolding event_line
-refused_sum page number best event e = rw e (simp length-append (omega arith))
-
-pub first_sum :
-    (pages slots requests : ℕ) →
-    length (first_line pages slots requests)
-    ≡ 5 + length (then_number pages) + (6 + length (then_number slots)) + (9 + length (then_number requests)) + 1
-unfolding first_line then_entry
-first_sum pages slots requests = simp length-append (omega arith)
-
-pub last_sum :
-    (served hits misses best : ℕ) →
-    length (last_line served hits misses best)
-    ≡ 6 + length (then_number served) + (5 + length (then_number hits)) + (7 + length (then_number misses)) + (5 + length (then_number best)) + 1
-unfolding last_line then_entry
-last_sum served hits misses best = simp length-append (omega arith)
-
-pub file_sum : (number : ℕ) → length (refused_line number) ≡ 7 + length (then_number number) + 1
-unfolding refused_line
-file_sum number = simp length-append (omega arith)
-
--- ---- the room of an entry and of a request's line, part by part
-
-module _ (at size : ℕ) where
-  pub entry_room : (a b : List ℕ) → at + length (a ++ b) ≤ size → at + (length a + length b) ≤ size
-  entry_room a b h = rw length-append at h
-
-  pub hit_room :
-      (page slot best : ℕ) (event : Event) →
-      event ≡ Hit slot →
-      at + length (event_line page event best) ≤ size →
-      at + (3 + length (then_number page) + length (then_number slot) + length (then_number best) + 1) ≤ size
-  hit_room page slot best event e h = omega (arith, hit_sum page slot best event e)
-
-  pub miss_room :
-      (page slot victim best : ℕ) (event : Event) →
-      event ≡ Miss slot victim →
-      at + length (event_line page event best) ≤ size →
-      at + (4 + length (then_number page) + length (then_number slot) + length (then_number victim) + length (then_number best) + 1) ≤ size
-  miss_room page slot victim best event e h = omega (arith, miss_sum page slot victim best event e)
-
-  pub refused_room :
-      (page number best : ℕ) (event : Event) →
-      event ≡ Refused number →
-      at + length (event_line page event best) ≤ size →
-      at + (7 + length (then_number page) + length (then_number number) + 1) ≤ size
-  refused_room page number best event e h = omega (arith, refused_sum page number best event e)
+copied s at k word piece e f = rw (e, f, drop-drop (length word) at s)

@@ -2,6 +2,7 @@
 -- Assumes nothing.
 use Rattle.std.specs.Prelude.{List, [], ◌∷◌, ◌++◌, ◌≡◌, refl, ℕ, zero, suc, ◌+◌, ◌*◌, ◌-◌, ◌/◌, ◌%◌, ◌^◌, ◌≤◌, ◌<◌, length, slice_index_or}
 use Rattle.std.proofs.Common.{pow-suc, arith, length-append}
+use Rattle.refusals.specs.Numbers.{number}
 use Rattle.serve.specs.declared.Event.{Event}
 use Rattle.serve.specs.declared.Event.TheVariants.{Hit, Miss, Refused}
 use Rattle.text.specs.Text.{digits_to, decimal, then_number, then_entry, event_line, first_line, last_line, refused_line}
@@ -111,7 +112,7 @@ event_line_short page (Hit slot) best =
 event_line_short page (Miss slot victim) best =
     simp length-append (omega (arith, then_number_short page, then_number_short slot, then_number_short victim, then_number_short best))
 event_line_short page (Refused n) best =
-    simp length-append (omega (arith, then_number_short page, then_number_short n))
+    simp length-append (omega (arith, then_number_short page, then_number_short (number n)))
 
 pub event_line_some : (page : ℕ) (event : Event) (best : ℕ) → 1 ≤ length (event_line page event best)
 unfolding event_line

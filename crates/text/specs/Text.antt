@@ -1,5 +1,6 @@
 -- Document 01, 'Traces to work from': the lines that the trace program prints, as bytes. Assumes nothing.
 use Rattle.std.specs.Prelude.{List, [], ◌∷◌, ◌++◌, ℕ, zero, suc, ◌+◌, ◌/◌, ◌%◌}
+use Rattle.refusals.specs.Numbers.{number}
 use Rattle.serve.specs.declared.Event.{Event}
 use Rattle.serve.specs.declared.Event.TheVariants.{Hit, Miss, Refused}
 
@@ -59,7 +60,7 @@ unfoldable pub event_line : ℕ → Event → ℕ → List ℕ
 event_line page (Hit slot) best = word_hit ++ (then_number page ++ (then_number slot ++ (then_number best ++ line_end)))
 event_line page (Miss slot victim) best =
     word_swap ++ (then_number page ++ (then_number slot ++ (then_number victim ++ (then_number best ++ line_end))))
-event_line page (Refused n) best = word_refused ++ (then_number page ++ (then_number n ++ line_end))
+event_line page (Refused n) best = word_refused ++ (then_number page ++ (then_number (number n) ++ line_end))
 
 -- A space, a word and a number, as in the first and the last line from their second word on.
 unfoldable pub then_entry : List ℕ → ℕ → List ℕ

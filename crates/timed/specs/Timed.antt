@@ -4,6 +4,7 @@ use Rattle.std.proofs.Common.{sym, ◌∙◌, ne_eqb}
 use Prim.Native.Nat.{ℕ, suc, ◌+◌, ◌≤◌, ◌<◌}
 use native.Mathlib.Omega.{arith}
 use Rattle.paging.specs.Sets.{◌=?◌}
+use Rattle.refusals.specs.Numbers.{number_in}
 use Rattle.run.specs.declared.Run.{Run}
 use Rattle.run.specs.declared.Served.{Served}
 use Rattle.run.specs.Sound.{Sound}
@@ -22,14 +23,14 @@ trace_misses b = if trace_refusal b =? 0 then (run_after (traced b).run (request
 -- ---- what is read of a file
 
 module _ (b : List ℕ) (t : Traced) (t_is : t ≡ traced b) where
-  refusal_is : t.refusal ≡ trace_refusal b
+  refusal_is : number_in t.refusal ≡ trace_refusal b
   refusal_is = rw t_is (told_refusal b)
 
-  pub no_misses : (t.refusal ≡ 0 → ⊥) → 0 ≡ trace_misses b
+  pub no_misses : (number_in t.refusal ≡ 0 → ⊥) → 0 ≡ trace_misses b
   unfolding trace_misses
   no_misses ne = rw (ne_eqb (trace_refusal b) 0 (λ z. ne (refusal_is ∙ z)))
 
-  module _ (accepted_is : t.refusal ≡ 0) where
+  module _ (accepted_is : number_in t.refusal ≡ 0) where
     ok : trace_refusal b ≡ 0
     ok = sym refusal_is ∙ accepted_is
 

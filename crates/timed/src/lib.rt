@@ -16,7 +16,7 @@ pub extern "C" fn timed_replay(file: &[u8]) -> u32
     ensures { result ≡ trace_misses file.now }
 {
     let traced = trace::read(file);
-    if traced.refusal != 0 {
+    if traced.refusal.is_some() {
         return 0;
     }
     replay::misses(file, traced.offset, traced.requests, traced.run)
@@ -27,12 +27,10 @@ fn checked_misses(file: &[u8], offset: usize, requests: usize, start: Run) -> u3
     ensures { result ≡ (run_after start (asked file.now offset requests)).counts.misses }
 {
     let mut run = start;
-    let mut i = 0;
-    while i < requests {
+    for i in 0..requests {
         let page = trace::request_at(file, offset, i);
-        let served = run.request(page as usize);
+        let served = run.request(usize::from(page));
         run = served.run;
-        i += 1;
     }
     run.counts.misses
 }
@@ -43,7 +41,7 @@ pub extern "C" fn timed_checked(file: &[u8]) -> u32
     ensures { result ≡ trace_misses file.now }
 {
     let traced = trace::read(file);
-    if traced.refusal != 0 {
+    if traced.refusal.is_some() {
         return 0;
     }
     checked_misses(file, traced.offset, traced.requests, traced.run)

@@ -1,25 +1,29 @@
 -- The reader as the code takes it: the header's refusals first, then those of a start with the lists that are read. Assumes nothing.
 use Rattle.std.proofs.Math.Bool.{Bool}
-use Rattle.std.specs.Prelude.{true, false, List, [], ◌∷◌, ◌⊎◌, ◌≡◌, refl, ℕ, suc, ◌+◌, ◌*◌, ◌≤◌, ◌<◌, length, take, nat_eq, nat_le}
-use Rattle.std.proofs.Common.{inl, inr, ◌∙◌, arith, take_at, drop-cons}
+use Rattle.std.specs.Prelude.{true, false, List, [], ◌∷◌, ◌⊎◌, ◌≡◌, refl, ℕ, suc, ◌+◌, ◌*◌, ◌≤◌, ◌<◌, length, take, nat_eq, nat_le, Option, Some, None, Result, Ok, Err}
+use Rattle.std.proofs.Common.{inl, inr, ⊎_elim, ◌∙◌, arith, take_at, drop-cons}
 use Rattle.std.proofs.Math.Path.{sym, ap}
 use Rattle.std.proofs.Math.ListN.{drop}
 use Rattle.std.proofs.Math.Seq.{drop-length}
 use borrow.Author.Tests.{eqb-true, eqb-false, eq-eqb, ne_eqb, leb-true, le-leb, lt-leb}
-use Rattle.paging.specs.Sets.{listed, table}
-use Rattle.paging.specs.Tests.{truth}
+use Rattle.paging.specs.Sets.{unless◌give◌else◌, listed, table}
+use Rattle.paging.specs.Tests.{truth, same_or_not}
 use Rattle.paging.specs.Tables.{listed_length, listed_entry}
 use Rattle.words.specs.Words.{word_at}
+use Rattle.refusals.specs.declared.Refusal.{Refusal}
+use Rattle.refusals.specs.Numbers.{number, told, given, number_in}
+use Rattle.refusals.specs.Laws.{number_some, named_number, number_named, none_given, given_some, number_given}
 use Rattle.begin.specs.Limits.{pages_fit, slots_fit, limits_refusal}
 use Rattle.begin.specs.Begin.{below, different}
-use Rattle.begin.specs.LimitLaws.{Limits, limits_hold, pages_within, slots_within}
+use Rattle.begin.specs.LimitLaws.{Limits, limits_hold, limits_small, pages_within, slots_within}
 use Rattle.run.specs.declared.Started.{Started}
 use Rattle.run.specs.Start.{listed_run, started}
 use Rattle.run.specs.StartLaws.{accepted}
+use Rattle.trace.specs.declared.Header.{Header as Said}
 use Rattle.trace.specs.declared.Traced.{Traced}
 use Rattle.trace.specs.Layout.{most_requests, trace_length, pages_in, slots_in, requests_in}
 use Rattle.trace.specs.Layout.{list_in, priorities_in, offsets_right, trace_refusal, traced, request_word}
-use Rattle.trace.specs.Reading.{limits_in, total_right, header_refusal, no_trace, asked}
+use Rattle.trace.specs.Reading.{limits_in, total_right, header_refusal, header_in, header_told, no_trace, asked}
 
 pub list_length : (b : List ℕ) → length (list_in b) ≡ slots_in b
 unfolding list_in
@@ -28,6 +32,15 @@ list_length b = listed_length (slots_in b) (λ i. word_at 2 b (24 + 2 * i))
 pub priorities_length : (b : List ℕ) → length (priorities_in b) ≡ pages_in b
 unfolding priorities_in
 priorities_length b = listed_length (pages_in b) (λ q. word_at 2 b (24 + 2 * slots_in b + 2 * q))
+
+-- an answer that names no refusal has none
+pub unrefused : (o : Option Refusal) → ((r : Refusal) → o ≡ Some r → ⊥) → o ≡ None
+unrefused None h = refl
+unrefused (Some r) h = absurd (h r refl)
+
+-- the refusal of a number is the one that has it
+pub given_number : (r : Refusal) → Some r ≡ given (number r)
+given_number r = given_some r (number r) refl
 
 -- ---- each refusal, from the numbers
 
@@ -145,15 +158,63 @@ header_holds b =
       total = eqb-true (length b) (trace_length (pages_in b) (slots_in b) (requests_in b)) t;
     })
 
+-- ---- the header as it is read
+
+module _ (b : List ℕ) where
+  header_small : header_refusal b ≤ 17
+  header_small =
+      header_cases
+      b
+      (λ n. n ≤ 17)
+      (λ a. omega arith)
+      (λ a l. omega (arith, limits_small (pages_in b) (slots_in b)))
+      (λ a l r. omega arith)
+      (λ a l r o. omega arith)
+      (λ a l r o t. omega arith)
+      (λ a l r o t. omega arith)
+
+  said_number : told (header_told b) ≡ header_refusal b
+  unfolding header_told
+  said_number =
+      ⊎_elim
+      (λ z. rw z refl)
+      (λ ne. rw (ne_eqb (header_refusal b) 0 ne) (number_named (header_refusal b) header_small ne))
+      (same_or_not (header_refusal b) 0)
+
+  pub said_err : (r : Refusal) → number r ≡ header_refusal b → (a : Result Said Refusal) → a ≡ Err r → a ≡ header_told b
+  unfolding header_told
+  said_err r n a e =
+      e
+      ∙ rw (ne_eqb (header_refusal b) 0 (λ z. number_some r (n ∙ z)), ← n) (ap (λ (x : Refusal). Err x) (sym (named_number r)))
+
+  pub said_ok : header_refusal b ≡ 0 → Ok (header_in b) ≡ header_told b
+  unfolding header_told
+  said_ok z = rw z
+
+  module _ (a : Result Said Refusal) (e : a ≡ header_told b) where
+    pub said_refusal : (r : Refusal) → a ≡ Err r → number r ≡ header_refusal b
+    said_refusal r is = sym (ap told is) ∙ (ap told e ∙ said_number)
+
+    pub said_header : (h : Said) → a ≡ Ok h → (h ≡ header_in b) × (header_refusal b ≡ 0)
+    said_header h is = (ap said (sym is ∙ (e ∙ sym (said_ok passed))), passed)
+      where
+        passed : header_refusal b ≡ 0
+        passed = sym (ap told e ∙ said_number) ∙ ap told is
+
+        said : Result Said Refusal → Said
+        said (Ok h) = h
+        said (Err r) = header_in b
+
 -- what the code asks of a file that the header lets pass
 pub header_room :
-    (b : List ℕ) (n : ℕ) →
-    n ≡ header_refusal b →
-    n ≡ 0 →
-    (24 + 2 * slots_in b + 2 * pages_in b ≤ length b) × (pages_in b ≤ 1024) × (slots_in b ≤ 64)
-header_room b n e z =
-    let h = header_holds b (sym e ∙ z) in
-    (omega (arith, h.total), h.limits.1, h.limits.3)
+    (b : List ℕ) (a : Result Said Refusal) (h : Said) →
+    a ≡ header_told b →
+    a ≡ Ok h →
+    (24 + 2 * h.slots + 2 * h.pages ≤ length b) × (h.pages ≤ 1024) × (h.slots ≤ 64)
+header_room b a h e is =
+    let (same, ok) = said_header b a e h is in
+    let w = header_holds b ok in
+    rw same (omega (arith, w.total), w.limits.1, w.limits.3)
 
 -- a file that the header refuses is refused so
 pub header_refuses : (b : List ℕ) → (header_refusal b ≡ 0 → ⊥) → header_refusal b ≡ trace_refusal b
@@ -169,11 +230,36 @@ header_refuses b =
     (λ a l r o t ne. rw (a, l, r, o, t))
     (λ a l r o t ne. absurd (ne refl))
 
+-- each refusal has a number of the table
+pub refusal_small : (b : List ℕ) → trace_refusal b ≤ 17
+unfolding trace_refusal
+refusal_small b =
+    header_cases
+    b
+    (λ n. trace_refusal b ≤ 17)
+    (λ a. rw a (omega arith))
+    (λ a l. rw (a, l) (omega (arith, limits_small (pages_in b) (slots_in b))))
+    (λ a l r. rw (a, l, r) (omega arith))
+    (λ a l r o. rw (a, l, r, o) (omega arith))
+    (λ a l r o t. rw (a, l, r, o, t) (omega arith))
+    (λ a l r o t. rw (a, l, r, o, t) (go (truth (below (pages_in b) (list_in b))) (truth (different (list_in b)))))
+  where
+    Test : Bool → Type 0
+    Test t = (t ≡ true) ⊎ (t ≡ false)
+
+    go :
+        Test (below (pages_in b) (list_in b)) →
+        Test (different (list_in b)) →
+        (unless below (pages_in b) (list_in b) give 5 else unless different (list_in b) give 6 else 0) ≤ 17
+    go (inr u) v = rw u (omega arith)
+    go (inl u) (inr v) = rw (u, v) (omega arith)
+    go (inl u) (inl v) = rw (u, v) (omega arith)
+
 -- any other as a start with its lists is
 abbrev pub start_of : List ℕ → Started
 start_of b = started (pages_in b) (slots_in b) (list_in b) (priorities_in b)
 
-pub start_refuses : (b : List ℕ) → header_refusal b ≡ 0 → (start_of b).refusal ≡ trace_refusal b
+pub start_refuses : (b : List ℕ) → header_refusal b ≡ 0 → (start_of b).refusal ≡ given (trace_refusal b)
 unfolding trace_refusal started trace_length
 start_refuses b z = go (truth (below (pages_in b) (list_in b))) (truth (different (list_in b)))
   where
@@ -204,7 +290,7 @@ start_refuses b z = go (truth (below (pages_in b) (list_in b))) (truth (differen
     pl : nat_eq (length (priorities_in b)) (pages_in b) ≡ true
     pl = eq-eqb (length (priorities_in b)) (pages_in b) (priorities_length b)
 
-    go : Test (below (pages_in b) (list_in b)) → Test (different (list_in b)) → (start_of b).refusal ≡ trace_refusal b
+    go : Test (below (pages_in b) (list_in b)) → Test (different (list_in b)) → (start_of b).refusal ≡ given (trace_refusal b)
     go (inr u) v = rw (a, h.no_limit, r, h.offsets, t, p, s, ll, u)
     go (inl u) (inr v) = rw (a, h.no_limit, r, h.offsets, t, p, s, ll, u, v)
     go (inl u) (inl v) = rw (a, h.no_limit, r, h.offsets, t, p, s, ll, u, v, pl)
@@ -223,40 +309,46 @@ take_entries size n d f = take_at (listed n f) _ n (listed_length n f)
 pub part_length : (size n : ℕ) (d : ℕ) (f : ℕ → ℕ) (array : List ℕ) → array ≡ table size n d f → n ≡ length (take n array)
 part_length size n d f array e = rw (e, take_entries size n d f) (sym (listed_length n f))
 
-module _ (b : List ℕ) (N k T : ℕ) (eN : N ≡ pages_in b) (ek : k ≡ slots_in b) (eT : T ≡ requests_in b) where
+module _ (b : List ℕ) (a : Result Said Refusal) (h : Said) (e : a ≡ header_told b) (is : a ≡ Ok h) where
+  same : h ≡ header_in b
+  same = (said_header b a e h is).0
+
   module _
       (list priorities : List ℕ)
-      (el : list ≡ table 1024 k 0 (λ i. word_at 2 b (24 + 2 * i)))
-      (ep : priorities ≡ table 1024 N 0 (λ q. word_at 2 b (24 + 2 * k + 2 * q)))
+      (el : list ≡ table 64 h.slots 0 (λ i. word_at 2 b (24 + 2 * i)))
+      (ep : priorities ≡ table 1024 h.pages 0 (λ q. word_at 2 b (24 + 2 * h.slots + 2 * q)))
     where
-      read_list : take k list ≡ list_in b
+      list_is : take h.slots list ≡ list_in b
       unfolding list_in
-      read_list = rw (el, take_entries 1024 k 0 (λ i. word_at 2 b (24 + 2 * i)), ek)
+      list_is = rw (el, take_entries 64 h.slots 0 (λ i. word_at 2 b (24 + 2 * i)), same)
 
-      read_priorities : take N priorities ≡ priorities_in b
+      priorities_are : take h.pages priorities ≡ priorities_in b
       unfolding priorities_in
-      read_priorities = rw (ep, take_entries 1024 N 0 (λ q. word_at 2 b (24 + 2 * k + 2 * q)), eN, ek)
+      priorities_are = rw (ep, take_entries 1024 h.pages 0 (λ q. word_at 2 b (24 + 2 * h.slots + 2 * q)), same)
 
-      module _ (s : Started) (es : s ≡ started N k (take k list) (take N priorities)) (n : ℕ) (z : n ≡ header_refusal b) (zero : n ≡ 0) where
+      module _ (s : Started) (es : s ≡ started h.pages h.slots (take h.slots list) (take h.pages priorities)) where
         began : s ≡ start_of b
-        began = es ∙ rw (read_list, read_priorities, eN, ek)
+        began = es ∙ rw (list_is, priorities_are, same)
 
-        told : s.refusal ≡ trace_refusal b
-        told = ap (λ (x : Started). x.refusal) began ∙ start_refuses b (sym z ∙ zero)
+        answered : s.refusal ≡ given (trace_refusal b)
+        answered = ap (λ (x : Started). x.refusal) began ∙ start_refuses b (said_header b a e h is).1
 
-        pub read_refused : (r : Traced) → (s.refusal ≡ 0 → ⊥) → r ≡ no_trace s.refusal → r ≡ traced b
-        read_refused r ne er = traced_refused b s.refusal r told ne er
+        pub read_refused : (n : Refusal) (r : Traced) → s.refusal ≡ Some n → r ≡ no_trace (number n) → r ≡ traced b
+        read_refused n r some er = traced_refused b (number n) r number_is (number_some n) er
+          where
+            number_is : number n ≡ trace_refusal b
+            number_is = ap number_in (sym some ∙ answered) ∙ number_given (trace_refusal b) (refusal_small b)
 
         pub read_told :
-            s.refusal ≡ 0 →
-            ◌≡◌ {A = Traced} (record { run = s.run; requests = T; offset = 24 + 2 * k + 2 * N; refusal = 0 }) (traced b)
+            s.refusal ≡ None →
+            ◌≡◌ {A = Traced} (record { run = s.run; requests = h.requests; offset = 24 + 2 * h.slots + 2 * h.pages; refusal = None }) (traced b)
         unfolding traced
-        read_told ok =
-            let none : trace_refusal b ≡ 0 = sym told ∙ ok in
-            let fine : (start_of b).refusal ≡ 0 = start_refuses b (sym z ∙ zero) ∙ none in
+        read_told fine =
+            let none : trace_refusal b ≡ 0 = none_given (trace_refusal b) (sym answered ∙ fine) in
             let run : s.run ≡ listed_run (pages_in b) (slots_in b) (list_in b) (priorities_in b) =
-            ap (λ (x : Started). x.run) began ∙ (accepted (pages_in b) (slots_in b) (list_in b) (priorities_in b) fine).run in
-            rw (none, run, eN, ek, eT)
+            ap (λ (x : Started). x.run) began
+            ∙ (accepted (pages_in b) (slots_in b) (list_in b) (priorities_in b) (ap (λ (x : Started). x.refusal) (sym began) ∙ fine)).run in
+            rw (none, run, same)
 
 -- the request at a place
 pub request_past : (b : List ℕ) (offset i : ℕ) → length b < offset + 2 * i + 2 → 0 ≡ request_word b offset i

@@ -1,6 +1,6 @@
 -- What holds of trace files, of the definitions alone: written and read back, read and written back, what a refusal leaves, and what a
 -- reader is handed. Assumes nothing.
-use Rattle.std.specs.Prelude.{Bool, true, false, ◌&&◌, ◌⊎◌, ◌≡◌, ℕ, ◌+◌, ◌*◌, ◌≤◌, ◌<◌, drop, nat_eq, nat_le, slice_index_or}
+use Rattle.std.specs.Prelude.{Bool, true, false, ◌&&◌, ◌⊎◌, ◌≡◌, ℕ, ◌+◌, ◌*◌, ◌≤◌, ◌<◌, drop, nat_eq, nat_le, slice_index_or, Option, Some, None}
 use mathlib.Core.List.{List, [], ◌++◌, append_assoc, append-nil}
 use Rattle.std.proofs.Common.{inl, inr, ⊎_elim, ap, ◌∙◌, arith, length-drop, take-append-drop, take_all, drop-drop}
 use Rattle.std.proofs.Math.Path.{refl, sym}
@@ -11,6 +11,9 @@ use Rattle.paging.specs.Tests.{truth, same_or_not, and_left, and_right}
 use Rattle.paging.specs.Tables.{listed_length, listed_entry, listed_same}
 use Rattle.words.specs.Words.{words, word_at}
 use Rattle.words.specs.Laws.{Bytes, words_length, word_at_words, listed_words, words_word_at, number_bytes_4, take_put, drop_put}
+use Rattle.refusals.specs.declared.Refusal.{Refusal}
+use Rattle.refusals.specs.Numbers.{given, number_in}
+use Rattle.refusals.specs.Laws.{number_some, none_given, number_given}
 use Rattle.ranking.specs.Defaults.{default_priority, default_priorities}
 use Rattle.begin.specs.LimitLaws.{limits_none}
 use Rattle.run.specs.declared.Started.{Started}
@@ -21,10 +24,11 @@ use Rattle.trace.specs.Layout.{most_requests, trace_header, trace_length, trace_
 use Rattle.trace.specs.Layout.{list_in, priorities_in, requests_of, offsets_right, trace_refusal, traced, request_word}
 use Rattle.trace.specs.Layout.{write_refusal, written, written_bytes}
 use Rattle.trace.specs.Reading.{header_refusal}
-use Rattle.trace.proofs.Reading.{header_none, header_refuses, header_holds, Header, right_two, start_of, start_refuses}
+use Rattle.trace.proofs.Reading.{header_none, header_refuses, header_holds, Header, right_two, start_of, start_refuses, refusal_small}
 use Rattle.trace.specs.Reading.{no_trace, asked}
 use Rattle.trace.proofs.Reading.{traced_refused, request_there}
 use Rattle.trace.proofs.Writing.{header_length, trace_bytes_length, answer_refused, write_kept}
+use Rattle.trace.specs.Writing.{no_file}
 use Rattle.trace.specs.Theorems.{Small, Says}
 
 -- ---- written and read back
@@ -62,7 +66,7 @@ section_list b xs vs ys at n eb ea en s =
 module _
     (N k : ℕ)
     (list priorities requests : List ℕ)
-    (ok : (started N k list priorities).refusal ≡ 0)
+    (ok : (started N k list priorities).refusal ≡ None)
     (all : Small priorities)
     (asked : Small requests)
     (few : length requests ≤ most_requests)
@@ -156,7 +160,7 @@ module _
     same_start = rw (list_is, priorities_is, pages_are, slots_are)
 
     none : trace_refusal b ≡ 0
-    none = sym (start_refuses b header) ∙ (ap (λ (s : Started). s.refusal) same_start ∙ ok)
+    none = none_given (trace_refusal b) (sym (start_refuses b header) ∙ (ap (λ (s : Started). s.refusal) same_start ∙ ok))
 
     run_is : (traced b).run ≡ (started N k list priorities).run
     unfolding traced
@@ -248,15 +252,15 @@ pub accepted_read :
     (b : List ℕ) →
     trace_refusal b ≡ 0 →
     traced b
-    ≡ record { run = (started (pages_in b) (slots_in b) (list_in b) (priorities_in b)).run; requests = requests_in b; offset = request_offset b; refusal = 0 }
+    ≡ record { run = (started (pages_in b) (slots_in b) (list_in b) (priorities_in b)).run; requests = requests_in b; offset = request_offset b; refusal = None }
 unfolding traced
 accepted_read b ok =
-    let fine : (start_of b).refusal ≡ 0 = start_refuses b (read_clear b ok) ∙ ok in
+    let fine : (start_of b).refusal ≡ None = start_refuses b (read_clear b ok) ∙ ap given ok in
     rw (ok, (accepted (pages_in b) (slots_in b) (list_in b) (priorities_in b) fine).run)
 
 pub read_sound : (b : List ℕ) → trace_refusal b ≡ 0 → Sound (traced b).run
 read_sound b ok =
-    let fine : (start_of b).refusal ≡ 0 = start_refuses b (read_clear b ok) ∙ ok in
+    let fine : (start_of b).refusal ≡ None = start_refuses b (read_clear b ok) ∙ ap given ok in
     rw (accepted_read b ok) (started_sound (pages_in b) (slots_in b) (list_in b) (priorities_in b) fine)
 
 -- its requests, one by one
@@ -278,23 +282,29 @@ module _ (N k : ℕ) (list priorities requests out : List ℕ) where
   pub refused_write :
       (write_refusal N k list priorities requests out ≡ 0 → ⊥) →
       (written_bytes N k list priorities requests out ≡ out)
-      × (written N k list priorities requests out ≡ record { length = 0; refusal = write_refusal N k list priorities requests out })
+      × (written N k list priorities requests out ≡ record { length = 0; refusal = given (write_refusal N k list priorities requests out) })
+  unfolding no_file
   refused_write ne = (
     sym (write_kept N k list priorities requests out (write_refusal N k list priorities requests out) refl ne),
     sym (answer_refused N k list priorities requests out (write_refusal N k list priorities requests out) refl ne),
   )
 
+-- an answer whose number is 0 has no refusal
+number_none : (o : Option Refusal) → number_in o ≡ 0 → o ≡ None
+number_none None e = refl
+number_none (Some r) e = absurd (number_some r e)
+
 -- what it means that a write is not refused
 pub write_passed :
     (N k : ℕ) (list priorities requests out : List ℕ) →
     write_refusal N k list priorities requests out ≡ 0 →
-    ((started N k list priorities).refusal ≡ 0) × (length requests ≤ most_requests) × (trace_length N k (length requests) ≤ length out)
+    ((started N k list priorities).refusal ≡ None) × (length requests ≤ most_requests) × (trace_length N k (length requests) ≤ length out)
 unfolding write_refusal
 write_passed N k list priorities requests out ok =
     go (truth (nat_eq refusal 0)) (truth (nat_le (length requests) most_requests)) (truth (nat_le size (length out)))
   where
     refusal : ℕ
-    refusal = (started N k list priorities).refusal
+    refusal = number_in (started N k list priorities).refusal
 
     size : ℕ
     size = trace_length N k (length requests)
@@ -306,14 +316,14 @@ write_passed N k list priorities requests out ok =
         Test (nat_eq refusal 0) →
         Test (nat_le (length requests) most_requests) →
         Test (nat_le size (length out)) →
-        (refusal ≡ 0) × (length requests ≤ most_requests) × (size ≤ length out)
+        ((started N k list priorities).refusal ≡ None) × (length requests ≤ most_requests) × (size ≤ length out)
     go (inr u) v w = absurd (eqb-false refusal 0 u (rw u at ok))
     go (inl u) (inr v) w = absurd (omega (arith, rw (u, v) at ok))
     go (inl u) (inl v) (inr w) = absurd (omega (arith, rw (u, v, w) at ok))
-    go (inl u) (inl v) (inl w) = (eqb-true refusal 0 u, leb-true (length requests) most_requests v, leb-true size (length out) w)
+    go (inl u) (inl v) (inl w) = (number_none (started N k list priorities).refusal (eqb-true refusal 0 u), leb-true (length requests) most_requests v, leb-true size (length out) w)
 
 module _ (N k : ℕ) (list priorities requests out : List ℕ) (ok : write_refusal N k list priorities requests out ≡ 0) where
-  passed : ((started N k list priorities).refusal ≡ 0) × (length requests ≤ most_requests) × (trace_length N k (length requests) ≤ length out)
+  passed : ((started N k list priorities).refusal ≡ None) × (length requests ≤ most_requests) × (trace_length N k (length requests) ≤ length out)
   passed = write_passed N k list priorities requests out ok
 
   new_length : 0 + length (trace_bytes N k list priorities requests) ≡ trace_length N k (length requests)
@@ -352,13 +362,13 @@ asked_all b ok =
     (λ i. word_at 2 b (request_offset b + 2 * i))
     (λ i l. sym (request_there b (request_offset b) i (word_at 2 b (request_offset b + 2 * i)) (omega (arith, (read_header b ok).total)) refl))
 
--- The number that the reader answers is the file's refusal.
-pub told_refusal : (b : List ℕ) → (traced b).refusal ≡ trace_refusal b
+-- The number of what the reader answers is the file's refusal.
+pub told_refusal : (b : List ℕ) → number_in (traced b).refusal ≡ trace_refusal b
 unfolding no_trace
 told_refusal b = ⊎_elim fine bad (same_or_not (trace_refusal b) 0)
   where
-    fine : trace_refusal b ≡ 0 → (traced b).refusal ≡ trace_refusal b
+    fine : trace_refusal b ≡ 0 → number_in (traced b).refusal ≡ trace_refusal b
     fine ok = rw (accepted_read b ok, ok)
 
-    bad : (trace_refusal b ≡ 0 → ⊥) → (traced b).refusal ≡ trace_refusal b
-    bad ne = rw (refused_read b ne)
+    bad : (trace_refusal b ≡ 0 → ⊥) → number_in (traced b).refusal ≡ trace_refusal b
+    bad ne = rw (refused_read b ne) (number_given (trace_refusal b) (refusal_small b))

@@ -1,5 +1,5 @@
 -- The writer as the code takes it: its refusals, and the sections one after the other. Assumes nothing.
-use Rattle.std.specs.Prelude.{List, [], ◌∷◌, ◌++◌, ◌≡◌, refl, ℕ, ◌+◌, ◌*◌, ◌≤◌, ◌<◌, take, slice_index_or}
+use Rattle.std.specs.Prelude.{List, [], ◌∷◌, ◌++◌, ◌≡◌, refl, ℕ, ◌+◌, ◌*◌, ◌≤◌, ◌<◌, take, slice_index_or, Some, None, Result, Err}
 use Rattle.std.proofs.Common.{append_assoc, sym, ap, ◌∙◌, arith, length-append}
 use Rattle.std.proofs.Math.ListN.{length}
 use borrow.Author.Tests.{ne_eqb, le-leb, lt-leb}
@@ -7,6 +7,9 @@ use Rattle.words.specs.Words.{bytes, words, put}
 use Rattle.words.specs.Laws.{words_length, words_append, words_one, put_then}
 use Rattle.paging.specs.Sets.{listed}
 use Rattle.paging.specs.Tables.{listed_same, listed_entry}
+use Rattle.refusals.specs.declared.Refusal.{Refusal}
+use Rattle.refusals.specs.Numbers.{told, number_in}
+use Rattle.refusals.specs.Laws.{told_fine, number_given}
 use Rattle.ranking.specs.Defaults.{default_priority, default_priorities}
 use Rattle.begin.specs.Limits.{limits_refusal}
 use Rattle.begin.specs.LimitLaws.{limits_hold}
@@ -15,12 +18,12 @@ use Rattle.run.specs.declared.Started.{Started}
 use Rattle.run.specs.Start.{started}
 use Rattle.run.specs.StartLaws.{accepted}
 use Rattle.begin.specs.Refusals.{list_refusal}
-use Rattle.begin.proofs.RefusalLaws.{refuse_limits}
+use Rattle.begin.proofs.RefusalLaws.{refuse_limits, refusal_small}
 use Rattle.run.specs.Starting.{refused_list}
 use Rattle.trace.specs.declared.Written.{Written}
 use Rattle.trace.specs.Layout.{most_requests, trace_header, trace_length, trace_bytes, write_refusal, written, written_bytes}
-use Rattle.trace.proofs.Reading.{take_entries}
-use Rattle.trace.specs.Writing.{Fits}
+use Rattle.trace.proofs.Reading.{take_entries, part_length, unrefused}
+use Rattle.trace.specs.Writing.{Fits, no_file}
 
 -- ---- the header, number by number
 
@@ -101,15 +104,15 @@ sections_written s a b c d N k list priorities requests fits ha hb hc hd =
 -- ---- the refusals
 
 pub start_limits :
-    (N k : ℕ) (list priorities : List ℕ) (s : Started) → s ≡ started N k list priorities → s.refusal ≡ 0 → (N ≤ 1024) × (k ≤ 64)
-start_limits N k list priorities s es z =
-    let a = accepted N k list priorities (ap (λ (x : Started). x.refusal) (sym es) ∙ z) in
+    (N k : ℕ) (list priorities : List ℕ) (s : Started) → s ≡ started N k list priorities → ((r : Refusal) → s.refusal ≡ Some r → ⊥) → (N ≤ 1024) × (k ≤ 64)
+start_limits N k list priorities s es h =
+    let a = accepted N k list priorities (ap (λ (x : Started). x.refusal) (sym es) ∙ unrefused s.refusal h) in
     (a.pages.1, a.slots.1)
 
 module _ (N k : ℕ) (list priorities requests out : List ℕ) where
   module _ (n : ℕ) (e : n ≡ write_refusal N k list priorities requests out) (ne : n ≡ 0 → ⊥) where
-    pub answer_refused : ◌≡◌ {A = Written} (record { length = 0; refusal = n }) (written N k list priorities requests out)
-    unfolding written
+    pub answer_refused : no_file n ≡ written N k list priorities requests out
+    unfolding no_file written
     answer_refused = rw (ne_eqb (write_refusal N k list priorities requests out) 0 (λ z. ne (e ∙ z)), e)
 
     pub write_kept : out ≡ written_bytes N k list priorities requests out
@@ -117,13 +120,12 @@ module _ (N k : ℕ) (list priorities requests out : List ℕ) where
     write_kept = rw (ne_eqb (write_refusal N k list priorities requests out) 0 (λ z. ne (e ∙ z)))
 
     pub write_refused :
-        (◌≡◌ {A = Written} (record { length = 0; refusal = n }) (written N k list priorities requests out))
-        × (out ≡ written_bytes N k list priorities requests out)
-    write_refused = (answer_refused, write_kept)
+        (w : Written) → w ≡ no_file n → (w ≡ written N k list priorities requests out) × (out ≡ written_bytes N k list priorities requests out)
+    write_refused w ew = (ew ∙ answer_refused, write_kept)
 
   module _ (e : write_refusal N k list priorities requests out ≡ 0) where
     pub answer_told :
-        ◌≡◌ {A = Written} (record { length = 24 + 2 * k + 2 * N + 2 * length requests; refusal = 0 }) (written N k list priorities requests out)
+        ◌≡◌ {A = Written} (record { length = 24 + 2 * k + 2 * N + 2 * length requests; refusal = None }) (written N k list priorities requests out)
     unfolding written trace_length
     answer_told = rw e
 
@@ -135,21 +137,23 @@ module _ (N k : ℕ) (list priorities requests out : List ℕ) where
     pub write_told :
         (new : List ℕ) →
         new ≡ put out 0 (trace_bytes N k list priorities requests) →
-        (◌≡◌ {A = Written} (record { length = 24 + 2 * k + 2 * N + 2 * length requests; refusal = 0 }) (written N k list priorities requests out))
+        (◌≡◌ {A = Written} (record { length = 24 + 2 * k + 2 * N + 2 * length requests; refusal = None }) (written N k list priorities requests out))
         × (new ≡ written_bytes N k list priorities requests out)
     write_told new h = (answer_told, write_done new h)
 
   module _ (s : Started) (es : s ≡ started N k list priorities) where
-    told : s.refusal ≡ (started N k list priorities).refusal
-    told = ap (λ (x : Started). x.refusal) es
+    same_refusal : s.refusal ≡ (started N k list priorities).refusal
+    same_refusal = ap (λ (x : Started). x.refusal) es
 
-    pub refuse_start : (s.refusal ≡ 0 → ⊥) → s.refusal ≡ write_refusal N k list priorities requests out
+    pub refuse_start : (n : ℕ) → number_in s.refusal ≡ n → (n ≡ 0 → ⊥) → n ≡ write_refusal N k list priorities requests out
     unfolding write_refusal
-    refuse_start ne = rw (ne_eqb (started N k list priorities).refusal 0 (λ z. ne (told ∙ z))) told
+    refuse_start n e ne =
+        let same : n ≡ number_in (started N k list priorities).refusal = sym e ∙ ap number_in same_refusal in
+        rw (ne_eqb (number_in (started N k list priorities).refusal) 0 (λ z. ne (same ∙ z))) same
 
-    module _ (z : s.refusal ≡ 0) where
-      none : (started N k list priorities).refusal ≡ 0
-      none = sym told ∙ z
+    module _ (z : s.refusal ≡ None) where
+      none : (started N k list priorities).refusal ≡ None
+      none = sym same_refusal ∙ z
 
       pub refuse_requests : most_requests < length requests → 14 ≡ write_refusal N k list priorities requests out
       unfolding write_refusal
@@ -184,8 +188,9 @@ module _ (N k : ℕ) (list priorities requests out : List ℕ) where
   refuse_limited n e ne =
       let by_list : n ≡ list_refusal N k list = refuse_limits N k list n e ne in
       let start = refused_list N k list priorities (λ z. ne (by_list ∙ z)) in
-      let same : n ≡ (started N k list priorities).refusal = by_list ∙ ap (λ (x : Started). x.refusal) (sym start) in
-      same ∙ refuse_start (started N k list priorities) refl (λ z. ne (same ∙ z))
+      let same : number_in (started N k list priorities).refusal ≡ n =
+      ap (λ (x : Started). number_in x.refusal) start ∙ (number_given (list_refusal N k list) (omega (arith, refusal_small N k list)) ∙ sym by_list) in
+      refuse_start (started N k list priorities) refl n same ne
 
 -- the part of the code's array that holds the default priorities
 pub default_part : (N : ℕ) (array : List ℕ) → array ≡ start_priorities N (default_priorities N) → take N array ≡ default_priorities N
@@ -194,5 +199,10 @@ default_part N array e =
     rw (e, take_entries 1024 N 0 (λ q. slice_index_or (listed N default_priority) q 0))
     (listed_same N (λ q. slice_index_or (listed N default_priority) q 0) default_priority (λ q l. listed_entry N default_priority 0 q l))
 
-pub limit_pages : (N k n : ℕ) → n ≡ limits_refusal N k → n ≡ 0 → N ≤ 1024
-limit_pages N k n e z = (limits_hold N k (sym e ∙ z)).1
+pub limit_pages : (N k : ℕ) (a : Result Unit Refusal) → told a ≡ limits_refusal N k → ((r : Refusal) → a ≡ Err r → ⊥) → N ≤ 1024
+limit_pages N k a e none = (limits_hold N k (sym e ∙ told_fine a none)).1
+
+-- as long as the part that the code takes of it
+pub default_length : (N : ℕ) (array : List ℕ) → array ≡ start_priorities N (default_priorities N) → N ≡ length (take N array)
+unfolding start_priorities
+default_length N array e = part_length 1024 N 0 (λ q. slice_index_or (default_priorities N) q 0) array e

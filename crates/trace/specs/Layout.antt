@@ -1,7 +1,8 @@
 -- Document 01, 'House layouts': a trace file. Assumes nothing.
-use Rattle.std.specs.Prelude.{Bool, ◌&&◌, List, [], ◌∷◌, ◌++◌, ℕ, ◌+◌, ◌*◌, length, if◌then◌else◌}
+use Rattle.std.specs.Prelude.{Bool, ◌&&◌, List, [], ◌∷◌, ◌++◌, ℕ, ◌+◌, ◌*◌, length, if◌then◌else◌, None}
 use Rattle.paging.specs.Sets.{◌=?◌, ◌≤?◌, unless◌give◌else◌, listed}
 use Rattle.words.specs.Words.{words, word_at, put}
+use Rattle.refusals.specs.Numbers.{given, number_in}
 use Rattle.begin.specs.Limits.{limits_refusal}
 use Rattle.begin.specs.Begin.{below, different}
 use Rattle.run.specs.Numbers.{blank_run}
@@ -75,9 +76,9 @@ traced b =
       run = listed_run (pages_in b) (slots_in b) (list_in b) (priorities_in b);
       requests = requests_in b;
       offset = request_offset b;
-      refusal = 0;
+      refusal = None;
     }
-    else record { run = blank_run; requests = 0; offset = 0; refusal = trace_refusal b }
+    else record { run = blank_run; requests = 0; offset = 0; refusal = given (trace_refusal b) }
 
 -- The request at a place of a file, 0 where the file ends before it.
 unfoldable pub request_word : List ℕ → ℕ → ℕ → ℕ
@@ -88,7 +89,7 @@ request_word b offset i = if offset + 2 * i + 2 ≤? length b then word_at 2 b (
 -- Trace writer: start's order, then 14, 16. 0 where it is written.
 unfoldable pub write_refusal : ℕ → ℕ → List ℕ → List ℕ → List ℕ → List ℕ → ℕ
 write_refusal N k list priorities requests out =
-    unless (started N k list priorities).refusal =? 0 give (started N k list priorities).refusal else
+    unless number_in (started N k list priorities).refusal =? 0 give number_in (started N k list priorities).refusal else
     unless length requests ≤? most_requests give 14 else
     unless trace_length N k (length requests) ≤? length out give 16 else
     0
@@ -97,8 +98,8 @@ write_refusal N k list priorities requests out =
 unfoldable pub written : ℕ → ℕ → List ℕ → List ℕ → List ℕ → List ℕ → Written
 written N k list priorities requests out =
     if write_refusal N k list priorities requests out =? 0
-    then record { length = trace_length N k (length requests); refusal = 0 }
-    else record { length = 0; refusal = write_refusal N k list priorities requests out }
+    then record { length = trace_length N k (length requests); refusal = None }
+    else record { length = 0; refusal = given (write_refusal N k list priorities requests out) }
 
 unfoldable pub written_bytes : ℕ → ℕ → List ℕ → List ℕ → List ℕ → List ℕ → List ℕ
 written_bytes N k list priorities requests out =

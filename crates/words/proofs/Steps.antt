@@ -1,36 +1,44 @@
--- What two bytes, two halves of a number and a turn of a loop leave, in the contracts' words. Assumes nothing.
-use mathlib.Core.List.{List, [], ◌∷◌, ◌++◌, append_assoc}
+-- What some bytes of a slice and a turn of a loop leave, in the contracts' words. Assumes nothing.
+use mathlib.Core.List.{List, [], ◌∷◌, ◌++◌}
 use mathlib.Core.Path.{◌≡◌, sym, ap, ◌∙◌}
-use Prim.Native.Nat.{ℕ, suc, ◌+◌, ◌*◌, ◌/◌, ◌%◌, ◌≤◌, ◌<◌}
+use Prim.Native.Nat.{ℕ, suc, ◌+◌, ◌*◌, ◌-◌, ◌/◌, ◌%◌, ◌≤◌, ◌<◌}
 use native.Mathlib.Numerals.{add-one}
 use native.Mathlib.Omega.{arith}
-use lib.ListN.{length, get_or, set, take}
-use lib.Seq.{drop-cons, length-take-le, sets-eq, take_all, take-suc}
+use lib.ListN.{length, get_or, take}
+use lib.Seq.{drop-cons, drop-drop, length-take-le, take_all, take-suc}
 use Rattle.words.specs.Words.{bytes, number, words, word_at, put}
-use Rattle.words.specs.Laws.{bytes_append, bytes_length, words_length, words_append, words_one, put_none, put_then}
+use borrow.Rule.Slice.PartMut.{put_mid}
+use Rattle.words.specs.Laws.{bytes_length, word_at_add, words_length, words_append, words_one, put_none, put_then}
 
-pub read_two : (s : List ℕ) (at : ℕ) → at + 2 ≤ length s → get_or s at 0 + 256 * get_or s (at + 1) 0 ≡ word_at 2 s at
+pub read_two : (s : List ℕ) (at : ℕ) → at + 2 ≤ length s → get_or s at 0 + get_or s (at + 1) 0 * 256 ≡ word_at 2 s at
 unfolding word_at number
 read_two s at h =
     rw (drop-cons s at 0 (omega arith), drop-cons s (suc at) 0 (omega arith), add-one at) (omega arith)
 
-pub write_two : (s : List ℕ) (at v : ℕ) → at + 2 ≤ length s → set (set s at (v % 256)) (at + 1) (v / 256 % 256) ≡ put s at (bytes 2 v)
-unfolding put bytes
-write_two s at v h =
-    rw (add-one at, ← append_assoc) (sets-eq (v % 256 ∷ v / 256 % 256 ∷ []) s at h)
-
--- two numbers of 16 bits are one of 32
-pub write_four :
-    (s t last : List ℕ) (at v : ℕ) →
+-- two halves of 16 bits are one number of 32
+pub read_four :
+    (s : List ℕ) (at : ℕ) →
     at + 4 ≤ length s →
-    t ≡ put s at (bytes 2 (v % 65536)) →
-    last ≡ put t (at + 2) (bytes 2 (v / 65536)) →
-    last ≡ put s at (bytes 4 v)
-write_four s t last at v h p q =
-    let size : length (bytes 2 (v % 65536)) ≡ 2 = bytes_length 2 (v % 65536) in
-    let whole : v % 65536 + 65536 * (v / 65536) ≡ v = omega arith in
-    put_then s t last at (at + 2) (bytes 2 (v % 65536)) (bytes 2 (v / 65536)) p q (omega arith) (omega arith)
-    ∙ ap (put s at) (sym (bytes_append 2 2 (v % 65536) (v / 65536) (omega arith)) ∙ ap (bytes 4) whole)
+    get_or s at 0 + get_or s (at + 1) 0 * 256 + get_or s (at + 2) 0 * 65536 + get_or s (at + 3) 0 * 16777216 ≡ word_at 4 s at
+read_four s at h =
+    let high : at + 2 + 1 ≡ at + 3 = omega arith in
+    let upper = rw high at (read_two s (at + 2) (omega arith)) in
+    omega (arith, word_at_add 2 2 s at (omega arith), read_two s at (omega arith), upper)
+
+-- a number's bytes copied over a part of a slice
+pub put_bytes :
+    (w : ℕ) (s t new : List ℕ) (at v : ℕ) → t ≡ new → new ≡ bytes w v → put_mid at (at + w - at) s t ≡ put s at (bytes w v)
+unfolding put
+put_bytes w s t new at v p e =
+    let size : at + w - at ≡ length (bytes w v) = omega (arith, bytes_length w v) in
+    rw (p, e, size, drop-drop)
+
+pub low_first_4 : (v : ℕ) → v % 256 ∷ v / 256 % 256 ∷ v / 65536 % 256 ∷ v / 16777216 % 256 ∷ [] ≡ bytes 4 v
+unfolding bytes
+low_first_4 v =
+    let two : v / 65536 ≡ v / 256 / 256 = omega arith in
+    let three : v / 16777216 ≡ v / 256 / 256 / 256 = omega arith in
+    rw (two, three)
 
 -- the loop that writes a list: nothing yet, one entry more, all of them
 pub list_none : (w : ℕ) (s : List ℕ) (at : ℕ) → s ≡ put s at (words w [])

@@ -2,6 +2,8 @@
 -- contracts of the calls cite. Assumes nothing.
 use Rattle.std.specs.Prelude.{List, [], ◌∷◌, ◌++◌, map, ◌≡◌, refl, ℕ, zero, suc, ◌+◌, if◌then◌else◌}
 use Rattle.serve.specs.declared.Event.{Event}
+use Rattle.refusals.specs.Numbers as refusals
+use Rattle.refusals.specs.Numbers.{number_in}
 use Rattle.serve.specs.declared.Event.TheVariants.{Hit, Miss, Refused}
 use Rattle.run.specs.declared.Run.{Run}
 use Rattle.paging.specs.Sets.{Pages, count, each, any, first, lowest, listed, table, only}
@@ -36,7 +38,7 @@ pub data Line : Type 0 where
 unfoldable pub line : ℕ → Event → ℕ → Line
 line p (Hit s) b = hit p s b
 line p (Miss s v) b = swap p s v b
-line p (Refused n) b = refused p n
+line p (Refused n) b = refused p (refusals.number n)
 
 -- What is given: N, k, the start list and the priorities; how many requests, all hits, went before; the requests.
 pub record Given : Type 0 where
@@ -246,7 +248,7 @@ all_hold = refl
 
 -- The refusals of a start, in their order: each start is wrong in all that comes later, too, as far as it can be.
 pub start_refusals :
-    map (λ g. (started g.pages g.slots g.start g.priorities).refusal) (
+    map (λ g. number_in (started g.pages g.slots g.start g.priorities).refusal) (
     given 1025 65 [] [] 0 []
     ∷ given 6 65 [] [] 0 []
     ∷ given 2 3 [] [] 0 []

@@ -6,13 +6,13 @@ use Rattle.answers.proofs.event.Goals as goal
 pub returns-in-Hit : goal.returns-in-Hit
 unfolding event_texts
 returns-in-Hit c =
-    rw c.in-Hit.is
+    rw (c.in-Hit.is, ← c.from.ensures)
     (wrote_then c.write_word-first.ensures (wrote_then c.then_number-second.ensures c.then_number.ensures))
 
 pub returns-in-Miss : goal.returns-in-Miss
 unfolding event_texts
 returns-in-Miss c =
-    rw c.in-Miss.is
+    rw (c.in-Miss.is, ← c.from-in-Miss.ensures)
     (wrote_then
     c.write_word-first-in-Miss.ensures
     (wrote_then c.then_number-second-in-Miss.ensures (wrote_then c.then_number-third.ensures c.then_number-in-Miss.ensures)))

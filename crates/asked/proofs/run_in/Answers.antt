@@ -17,8 +17,12 @@ agree-requires c =
     let f = image_fits _ _ _ c.requires (run_pages _ _ e) (run_slots _ _ e) in
     (f.0, f.1, omega arith)
 
-pub returns-then-not-agree : goal.returns-then-not-agree
-returns-then-not-agree c = differing _ _ _ (c.if-not-agree.true) (c.agree.ensures ∙ agree_in _ _ (taken (goal.at.returns-then-not-agree c).After-in_image-run)) c.blank.ensures
+pub returns-then-agree : goal.returns-then-agree
+returns-then-agree c =
+    let e = taken (goal.at.returns-then-agree c).After-in_image-run in
+    agreeing _ _ _ c.if-agree.true (c.agree.ensures ∙ agree_in _ _ e) e
 
-pub returns : goal.returns
-returns c = agreeing _ _ _ (c.if-not-agree.false) (c.agree.ensures ∙ agree_in _ _ (taken (goal.at.returns c).After-in_image-run)) (taken (goal.at.returns c).After-in_image-run)
+pub returns-else-agree : goal.returns-else-agree
+returns-else-agree c =
+    let e = taken (goal.at.returns-else-agree c).After-in_image-run in
+    differing _ _ _ c.if-agree.false (c.agree.ensures ∙ agree_in _ _ e) c.blank.ensures

@@ -1,24 +1,20 @@
 -- `begin::layers_of` meets its contract, by the invariant of its loop. Assumes nothing.
 use native.Mathlib.Omega.{arith}
-use borrow.Author.Rules.{rules}
 use Rattle.begin.specs.Laws.{below_true}
 use Rattle.begin.proofs.Places.{placed_none, placed_more, placed_all}
 use Rattle.begin.proofs.layers_of.Goals as goal
 
 pub loop-i-init : goal.loop-i-init
-loop-i-init c = (search rules, placed_none c.args.list.now)
+loop-i-init c = placed_none c.args.list.now
 
-pub overflow_cast-layer-in-loop-i : goal.overflow_cast-layer-in-loop-i
-overflow_cast-layer-in-loop-i c = omega (arith, c.type_inv.list c.loop-i.i)
-
-pub bounds-layer-list : goal.bounds-layer-list
-bounds-layer-list c =
+pub bounds-layer-page : goal.bounds-layer-page
+bounds-layer-page c =
     omega (arith, below_true _ _ c.requires.2 c.loop-i.i (omega arith))
 
 pub loop-i-preserved : goal.loop-i-preserved
 loop-i-preserved c =
-    (search rules, placed_more _ _ _ c.requires.0 c.requires.2 _ c.requires.3 (omega arith) c.loop-i.invariant.1)
+    placed_more _ _ _ c.requires.0 c.requires.2 _ c.requires.3 (omega arith) c.loop-i.invariant
 
 pub returns : goal.returns
 returns c =
-    placed_all _ _ _ c.requires.0 c.requires.2 _ (omega arith) (omega arith) c.loop-i.invariant.1
+    placed_all _ _ _ c.requires.0 c.requires.2 _ (omega arith) (omega arith) c.loop-i.invariant

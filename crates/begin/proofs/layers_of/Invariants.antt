@@ -1,11 +1,6 @@
 -- The loop's invariant in `begin::layers_of`: after i turns each entry is its page's place among the first i. Assumes nothing.
-use Prim.Native.Nat.{◌-◌, ◌≤◌}
-use lib.ListN.{length}
 use Rattle.begin.proofs.Places.{Placed}
 use Rattle.begin.proofs.layers_of.Given as goal
 
 abbrev pub invariant-loop-i : goal.invariant-loop-i
-invariant-loop-i l = (l.i ≤ length l.list) × Placed l.list l.layer l.i
-
-abbrev pub decreases-loop-i : goal.decreases-loop-i
-decreases-loop-i l = length l.list - l.i
+invariant-loop-i l = Placed l.list l.layer l.i

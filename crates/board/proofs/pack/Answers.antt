@@ -1,4 +1,5 @@
 -- `board::pack` meets its contract: the numbers of an event have room in their bits. Assumes nothing.
+use mathlib.Core.Path.{◌∙◌}
 use native.Mathlib.Omega.{arith}
 use borrow.Author.Rules.{rules}
 use Rattle.board.proofs.Bits.{small_hit, small_miss, pack_hit, pack_miss, pack_refused}
@@ -19,6 +20,5 @@ returns-in-Hit c = pack_hit _ c.requires _ c.in-Hit.is
 pub returns-in-Miss : goal.returns-in-Miss
 returns-in-Miss c = pack_miss _ c.requires _ _ c.in-Miss.is
 
--- a refusal is a byte
 pub returns-in-Refused : goal.returns-in-Refused
-returns-in-Refused c = pack_refused _ _ (search rules) c.in-Refused.is
+returns-in-Refused c = pack_refused _ _ _ (c.from.ensures ∙ c.number.ensures) c.in-Refused.is

@@ -7,11 +7,11 @@ use Rattle.board.proofs.settle.Goals as goal
 
 pub pack-requires : goal.pack-requires
 unfolding Small
-pack-requires c = tt
+pack-requires c = rw c.in-Refused.is tt
 
 pub returns-in-Refused : goal.returns-in-Refused
 returns-in-Refused c =
-    record { answer = c.pack.ensures ∙ ap packed (sym c.in-Refused.is); bytes = untouched _ _ _ _ c.in-Refused.is }
+    record { answer = c.pack.ensures; bytes = untouched _ _ _ _ c.in-Refused.is }
 
 pub write-requires : goal.write-requires
 write-requires c =

@@ -1,26 +1,25 @@
 -- `calls::gather` meets its contract, by the invariant of its loop. Assumes nothing.
-use mathlib.Core.Path.{refl}
-use Prim.Native.Nat.{◌-◌}
+use mathlib.Core.Bool.{true, false}
+use mathlib.Core.Path.{sym}
 use native.Mathlib.Omega.{arith}
 use Rattle.calls.proofs.Steps.{gathering_first, gathering_next, gathering_last}
-use borrow.Author.Rules.{rules}
 use Rattle.calls.proofs.gather.Goals as goal
+use Rattle.calls.proofs.gather.Goals.{then-is_in, else-is_in}
 
 pub loop-q-init : goal.loop-q-init
-loop-q-init c = (gathering_first _ _, search rules)
+loop-q-init c = gathering_first _ _
 
-pub put_page-n-requires : goal.put_page-n-requires
-put_page-n-requires c =
-    omega (arith, c.loop-q.invariant.0.few, c.loop-q.invariant.0.size, c.requires.1, c.loop-q-test.true)
+pub bounds-list-n : goal.bounds-list-n
+bounds-list-n c =
+    omega (arith, c.loop-q.invariant.few, c.loop-q.invariant.size, c.requires.0, c.requires.1)
 
 pub loop-q-preserved : goal.loop-q-preserved
 loop-q-preserved c =
-    (gathering_next _ _ _ _ _ c.loop-q.invariant.0 _ _ _ (search rules) (omega (arith, c.loop-q.invariant.0.few, c.loop-q.invariant.0.size, c.requires.1, c.loop-q-test.true)) refl (c.put_page-n.ensures.count, c.put_page-n.ensures.numbers), search rules)
-
-pub shape_of-list : goal.shape_of-list
-shape_of-list c =
-    c.loop-q.invariant.0.size
+    elim c.if-is_in.branch [
+      | then-is_in w ↦ gathering_next _ _ _ _ _ c.loop-q.invariant true _ _ c.loop-q-test.true (omega (arith, c.loop-q.invariant.few, c.loop-q.invariant.size, c.requires.0, c.requires.1)) (sym w.if-is_in.true) (w.n-is, w.list-is)
+      | else-is_in w ↦ gathering_next _ _ _ _ _ c.loop-q.invariant false _ _ c.loop-q-test.true (omega (arith, c.loop-q.invariant.few, c.loop-q.invariant.size, c.requires.0, c.requires.1)) (sym w.if-is_in.false) (omega (arith, w.n-is), w.list-is)
+    ]
 
 pub returns : goal.returns
 returns c =
-    let all = gathering_last _ _ _ _ _ c.loop-q.invariant.0 (search rules) in record { count = all.0; numbers = all.1 }
+    let all = gathering_last _ _ _ _ _ c.loop-q.invariant c.loop-q-test.false in record { count = all.0; numbers = all.1 }

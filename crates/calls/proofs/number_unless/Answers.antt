@@ -1,9 +1,11 @@
 -- `calls::number_unless` meets its contract, refused or not. Assumes nothing.
+use mathlib.Core.Path.{sym, ◌∙◌}
+use Rattle.refusals.specs.Laws.{number_is_some, number_not_some}
 use Rattle.answers.specs.Laws.{refused_wrote, accepted_wrote}
 use Rattle.calls.proofs.number_unless.Goals as goal
 
-pub returns-then-refusal-ne0 : goal.returns-then-refusal-ne0
-returns-then-refusal-ne0 c = search refused_wrote
+pub returns-then-is_some : goal.returns-then-is_some
+returns-then-is_some c = refused_wrote c.refusal-next.ensures _ (number_is_some _ (sym c.is_some.ensures ∙ c.if-is_some.true))
 
 pub returns : goal.returns
-returns c = search accepted_wrote
+returns c = accepted_wrote c.refusal-next.ensures (number_not_some _ (sym c.is_some.ensures ∙ c.if-is_some.false)) c.then_number.ensures

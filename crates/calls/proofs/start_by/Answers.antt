@@ -1,13 +1,24 @@
--- `calls::start_by` meets its contract, by its test. Assumes nothing.
-use Rattle.answers.specs.Laws.{same_wrote, other_wrote}
-use Rattle.calls.specs.Calls.{prioritised_texts}
+-- `calls::start_by` meets its contract, by its test and by what was read. Assumes nothing.
+use mathlib.Core.Path.{refl}
+use Rattle.answers.specs.Laws.{numbers_known, numbers_bad}
+use Rattle.answers.proofs.Same.{is_word, other_word}
+use Rattle.calls.specs.Calls.{given_texts, prioritised_texts}
 use Rattle.calls.proofs.start_by.Goals as goal
 
-pub returns-then-same : goal.returns-then-same
+pub returns-then-eq : goal.returns-then-eq
 unfolding prioritised_texts
-returns-then-same c =
-    same_wrote c.same.ensures _ c.if-same.true (rw c.start_default.ensures at c.started.ensures)
+returns-then-eq c =
+    is_word _ _ _ c.if-eq.true c.eq.ensures c.as_slice.ensures (rw c.start_default.ensures at c.started.ensures)
+
+pub returns-in_default : goal.returns-in_default
+unfolding prioritised_texts given_texts
+returns-in_default c =
+    other_word _ _ _ c.if-eq.false c.eq.ensures c.as_slice.ensures
+    (numbers_bad refl _ _ c.room-room.ensures.size (c.list.ensures.count, c.list.ensures.numbers) c.in_default.is c.bad.ensures)
 
 pub returns : goal.returns
-unfolding prioritised_texts
-returns c = search other_wrote
+unfolding prioritised_texts given_texts
+returns c =
+    other_word _ _ _ c.if-eq.false c.eq.ensures c.as_slice.ensures
+    (numbers_known refl _ _ c.room-room.ensures.size (c.list.ensures.count, c.list.ensures.numbers) c.in-Some.is c.first-priorities.ensures
+    (rw c.start.ensures at c.started-2.ensures))

@@ -1,12 +1,8 @@
 -- The loop's invariant in `certify::has_room`: `room` says whether there is room in each layer passed. Assumes nothing.
 use mathlib.Core.Path.{◌≡◌}
-use Prim.Native.Nat.{suc, ◌+◌, ◌-◌, ◌≤◌}
 use Rattle.paging.specs.Sets.{each}
 use Rattle.certify.proofs.Passes.{roomy}
 use Rattle.certify.proofs.has_room.Given as goal
 
 abbrev pub invariant-loop-j : goal.invariant-loop-j
-invariant-loop-j l = (l.j ≤ l.slots + 1) × (l.room ≡ each l.j (roomy l.counts))
-
-abbrev pub decreases-loop-j : goal.decreases-loop-j
-decreases-loop-j l = suc l.slots - l.j
+invariant-loop-j l = l.room ≡ each l.j (roomy l.counts)

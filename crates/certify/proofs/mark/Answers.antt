@@ -1,29 +1,33 @@
 -- `certify::mark` meets its contract, by the invariant of its loop. Assumes nothing.
-use mathlib.Core.Path.{refl}
+use mathlib.Core.Path.{◌∙◌}
 use native.Mathlib.Omega.{arith}
 use borrow.Author.Rules.{rules}
-use Rattle.paging.specs.Tests.{clash}
-use Rattle.certify.proofs.Marks.{marked_none, marked_more, no_seat, twice, seats_all, marks_all}
+use Rattle.slots.proofs.Loops.{taken, all_taken}
+use Rattle.certify.proofs.Marks.{Marked, marked_none, marked_more, no_seat, twice, seats_all, marks_all}
 use Rattle.certify.proofs.mark.Goals as goal
+use Rattle.certify.proofs.mark.Goals.{After-loop-entry, then-pages-page-via-then-pages-page, then-pages-page-via-else-pages-page+then-marks-page}
 
-pub loop-s-init : goal.loop-s-init
-loop-s-init c = (search rules, marked_none _ _ _ c.requires.2)
+pub loop-entry-init : goal.loop-entry-init
+loop-entry-init c = marked_none _ _ _ c.requires.2
 
-pub overflow_cast-page : goal.overflow_cast-page
-overflow_cast-page c = omega (arith, c.type_inv.entries c.loop-s.s)
+pub returns-then-pages-page-clause-result : goal.returns-then-pages-page-clause-result
+returns-then-pages-page-clause-result c =
+    let t = taken _ _ _ c.loop-entry-test.true in
+    elim c.then-pages-page.branch [ then-pages-page-via-then-pages-page v ↦ no_seat _ _ _ _ _ t.inside (c.from-page.ensures ∙ t.same) c.loop-entry.invariant _ t.below v.if-pages-page.true | then-pages-page-via-else-pages-page+then-marks-page v ↦ twice _ _ _ _ _ t.inside (c.from-page.ensures ∙ t.same) c.loop-entry.invariant _ t.below v.if-marks-page.true ]
 
-pub returns-then-pages-page : goal.returns-then-pages-page
-returns-then-pages-page c =
-    record { result = no_seat _ _ _ _ (search rules) c.loop-s.invariant.1 _ (search rules) (search rules); marked = λ e. absurd (clash e refl) }
+pub loop-entry-preserved : goal.loop-entry-preserved
+loop-entry-preserved c =
+    let t = taken _ _ _ c.loop-entry-test.true in
+    marked_more _ _ _ _ _ t.inside (c.from-page.ensures ∙ t.same) c.loop-entry.invariant (search rules) (search rules) c.if-marks-page.false
 
-pub returns-then-marks-page : goal.returns-then-marks-page
-returns-then-marks-page c =
-    record { result = twice _ _ _ _ (search rules) c.loop-s.invariant.1 _ (search rules) c.if-marks-page.true; marked = λ e. absurd (clash e refl) }
+-- all slots are passed
+passed : (c : After-loop-entry) → Marked c.args.pages c.args.held.now c.loop-entry.marks c.args.slots
+passed c =
+    let e = all_taken c.args.slots c.args.held.now c.loop-entry.entry-index (omega (arith, c.requires, c.told-held)) (omega arith) (omega arith) in
+    rw e at c.loop-entry.invariant
 
-pub loop-s-preserved : goal.loop-s-preserved
-loop-s-preserved c =
-    (search rules, marked_more _ _ _ _ (search rules) c.loop-s.invariant.1 (search rules) (search rules) c.if-marks-page.false)
+pub returns-clause-result : goal.returns-clause-result
+returns-clause-result c = seats_all _ _ _ _ (passed (goal.at.returns-clause-result c).After-loop-entry)
 
-pub returns : goal.returns
-returns c =
-    record { result = seats_all _ _ _ _ _ c.loop-s.invariant.1 (search rules) (search rules); marked = λ e. marks_all _ _ _ _ _ c.loop-s.invariant.1 (search rules) (search rules) (search rules) }
+pub returns-clause-marked : goal.returns-clause-marked
+returns-clause-marked c e = marks_all _ _ _ _ (passed (goal.at.returns-clause-marked c).After-loop-entry) (search rules)

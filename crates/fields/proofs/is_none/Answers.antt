@@ -1,12 +1,16 @@
 -- `fields::is_none` meets its contract. Assumes nothing.
-use mathlib.Core.Path.{sym}
 use native.Mathlib.Omega.{arith}
-use borrow.Author.Rules.{rules}
-use Rattle.fields.proofs.Steps.{none_longer, none_one}
+use Rattle.fields.proofs.Steps.{none_longer, one_dash, one_other}
 use Rattle.fields.proofs.is_none.Goals as goal
 
-pub returns-then-word-ne1 : goal.returns-then-word-ne1
-returns-then-word-ne1 c = sym (none_longer _ (λ e. omega arith))
+pub returns-in-45 : goal.returns-in-45
+returns-in-45 c = one_dash _ (omega arith) (omega arith)
 
-pub returns : goal.returns
-returns c = sym (none_one _ (search rules))
+pub returns-in_default : goal.returns-in_default
+returns-in_default c = none_longer _ (λ e. omega arith)
+
+pub returns-in_default-2 : goal.returns-in_default-2
+returns-in_default-2 c = one_other _ (omega arith) (λ e. omega arith)
+
+pub returns-in_default-3 : goal.returns-in_default-3
+returns-in_default-3 c = none_longer _ (λ e. omega arith)

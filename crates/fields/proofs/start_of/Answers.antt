@@ -1,21 +1,26 @@
 -- `fields::start_of` meets its contract, by the invariant of its loop. Assumes nothing.
+use Prim.Native.Nat.{◌+◌, ◌-◌}
 use mathlib.Core.Path.{◌≡◌, refl, ◌∙◌}
+use native.Mathlib.Omega.{arith}
 use borrow.Author.Rules.{rules}
 use Rattle.fields.proofs.Steps.{word_next, word_past}
 use Rattle.fields.proofs.start_of.Goals as goal
 
-pub loop-left-init : goal.loop-left-init
-loop-left-init c = (search rules, refl)
+pub loop-init : goal.loop-init
+loop-init c =
+    let all : c.args.index - 0 ≡ c.args.index = omega arith in
+    (search rules, rw all refl)
 
 pub returns-then-line-end : goal.returns-then-line-end
 returns-then-line-end c =
-    record { place = word_past _ c.loop-left.from _ c.end_of-end.ensures.place c.loop-left.left (search rules) (search rules) ∙ c.loop-left.invariant.1; within = search rules }
+    record { place = word_past _ c.loop.from _ c.end_of-end.ensures.place (c.args.index - c.loop.counter) (omega arith) (search rules) ∙ c.loop.invariant.1; within = search rules }
 
-pub loop-left-preserved : goal.loop-left-preserved
-loop-left-preserved c =
-    (search rules, word_next _ c.loop-left.from _ c.end_of-end.ensures.place c.loop-left.left (search rules) ∙ c.loop-left.invariant.1)
+pub loop-preserved : goal.loop-preserved
+loop-preserved c =
+    let less : c.args.index - (c.loop.counter + 1) ≡ c.args.index - c.loop.counter - 1 = omega arith in
+    (search rules, rw less (word_next _ c.loop.from _ c.end_of-end.ensures.place (c.args.index - c.loop.counter) (omega arith) ∙ c.loop.invariant.1))
 
 pub returns : goal.returns
 returns c =
-    let z : c.loop-left.left ≡ 0 = search rules in
-    record { place = rw z at c.loop-left.invariant.1; within = search rules }
+    let none : c.args.index - c.loop.counter ≡ 0 = omega arith in
+    record { place = rw none at c.loop.invariant.1; within = search rules }

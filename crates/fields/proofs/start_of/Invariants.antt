@@ -1,14 +1,10 @@
 -- The loop's invariant in `fields::start_of`: what is left of the line has the word at what is left of its number. Assumes
 -- nothing.
-use Prim.Native.Nat.{◌≤◌}
+use Prim.Native.Nat.{◌-◌, ◌≤◌}
 use mathlib.Core.Path.{◌≡◌}
-use lib.ListN.{length}
-use lib.ListN.{drop}
+use lib.ListN.{length, drop}
 use Rattle.fields.specs.Fields.{word_of}
 use Rattle.fields.proofs.start_of.Given as goal
 
-abbrev pub invariant-loop-left : goal.invariant-loop-left
-invariant-loop-left l = (l.from ≤ length l.line) × (word_of l.left (drop l.from l.line) ≡ word_of l.index l.line)
-
-abbrev pub decreases-loop-left : goal.decreases-loop-left
-decreases-loop-left l = l.left
+abbrev pub invariant-loop : goal.invariant-loop
+invariant-loop l = (l.from ≤ length l.line) × (word_of (l.index - l.counter) (drop l.from l.line) ≡ word_of l.index l.line)

@@ -1,12 +1,10 @@
 -- `fields::write_bytes` meets its contract, by its test. Assumes nothing.
-use native.Mathlib.Omega.{arith}
-use borrow.Author.Rules.{rules}
 use Rattle.hexadecimal.specs.Laws.{wrote_as}
-use Rattle.fields.proofs.Steps.{word_empty, word_some}
+use Rattle.fields.proofs.Steps.{is_nothing, is_something, word_empty, word_some}
 use Rattle.fields.proofs.write_bytes.Goals as goal
 
-pub returns-then-bytes-eq0 : goal.returns-then-bytes-eq0
-returns-then-bytes-eq0 c = wrote_as (word_empty _ (search rules)) c.write_word.ensures
+pub returns-then-is_empty : goal.returns-then-is_empty
+returns-then-is_empty c = wrote_as (word_empty _ (is_nothing c.is_empty.ensures c.if-is_empty.true)) c.write_word.ensures
 
 pub returns : goal.returns
-returns c = wrote_as (word_some _ (λ e. omega arith)) c.write.ensures
+returns c = wrote_as (word_some _ (is_something c.is_empty.ensures c.if-is_empty.false)) c.write.ensures

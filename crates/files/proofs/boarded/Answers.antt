@@ -7,4 +7,4 @@ use Rattle.files.proofs.boarded.Goals as goal
 pub returns : goal.returns
 unfolding boarded_texts refusal_texts
 returns c =
-    rw (← c.timonedra_serve-packed.ensures.answer, ← c.timonedra_serve-packed.ensures.bytes) (wrote_then c.write_number-next.ensures c.then_bytes.ensures)
+    rw (← c.timonedra_serve-packed.ensures.answer, ← c.timonedra_serve-packed.ensures.bytes, ← c.from.ensures) (wrote_then c.write_number-next.ensures c.then_bytes.ensures)

@@ -3,10 +3,10 @@ use Rattle.hexadecimal.specs.Laws.{wrote_then}
 use Rattle.files.specs.Files.{reading_texts, restored_texts}
 use Rattle.files.proofs.image_read.Goals as goal
 
-pub returns-in-Accepted : goal.returns-in-Accepted
+pub returns-in-Ok : goal.returns-in-Ok
 unfolding restored_texts reading_texts
-returns-in-Accepted c = rw c.in-Accepted.is (wrote_then c.refusal-next.ensures c.then_record.ensures)
+returns-in-Ok c = rw c.in-Ok.is (wrote_then c.refusal-next.ensures c.then_record.ensures)
 
-pub returns-in-Refused : goal.returns-in-Refused
+pub returns-in-Err : goal.returns-in-Err
 unfolding restored_texts reading_texts
-returns-in-Refused c = rw c.in-Refused.is c.refusal.ensures
+returns-in-Err c = rw c.in-Err.is c.refusal.ensures

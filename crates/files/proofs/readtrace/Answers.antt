@@ -6,11 +6,10 @@ use Rattle.files.proofs.readtrace.Goals as goal
 pub returns-in_default : goal.returns-in_default
 unfolding readtrace_answer
 returns-in_default c =
-    bytes_bad c.word.ensures _ _ c.byte_room-bytes.ensures.size (c.bytes-count.ensures.count, c.bytes-count.ensures.bytes) c.in_default.is
-    c.bad.ensures
+    bytes_bad c.word.ensures _ _ c.room-bytes.ensures.size (c.bytes.ensures.count, c.bytes.ensures.bytes) c.in_default.is c.bad.ensures
 
 pub returns : goal.returns
 unfolding readtrace_answer
 returns c =
-    bytes_known c.word.ensures _ _ c.byte_room-bytes.ensures.size (c.bytes-count.ensures.count, c.bytes-count.ensures.bytes) c.in-Of.is c.first.ensures
+    bytes_known c.word.ensures _ _ c.room-bytes.ensures.size (c.bytes.ensures.count, c.bytes.ensures.bytes) c.in-Some.is c.first.ensures
     (rw c.read.ensures at c.trace_read.ensures)

@@ -1,18 +1,11 @@
--- `frames::copy_page` meets its contract, by the invariant of its loop. Assumes nothing.
-use mathlib.Core.Path.{refl, sym}
-use Prim.Native.Nat.{◌-◌}
-use borrow.Author.Rules.{rules}
-use lib.ListN.{length-set}
-use Rattle.words.specs.Laws.{put_none}
-use Rattle.frames.proofs.Copy.{copy_more, copy_all}
+-- `frames::copy_page` meets its contract. Assumes nothing.
+use mathlib.Core.Path.{sym, ◌∙◌}
+use lib.Seq.{length-take-le}
+use Rattle.frames.proofs.Copy.{copied}
 use Rattle.frames.proofs.copy_page.Goals as goal
 
-pub loop-i-init : goal.loop-i-init
-loop-i-init c = (search rules, refl, sym (put_none _ 0))
-
-pub loop-i-preserved : goal.loop-i-preserved
-loop-i-preserved c =
-    (search rules, simp length-set (search rules), copy_more _ _ _ _ (search rules) (search rules) c.loop-i.invariant.2)
+pub copy_from_slice-requires : goal.copy_from_slice-requires
+copy_from_slice-requires c = length-take-le 64 _ c.requires.0 ∙ sym c.requires.1
 
 pub returns : goal.returns
-returns c = copy_all _ _ c.loop-i.i _ (search rules) c.loop-i.invariant.2
+returns c = copied _ _ _ 64 c.copy_from_slice.ensures.after c.requires.1

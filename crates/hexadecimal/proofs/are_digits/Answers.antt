@@ -1,21 +1,14 @@
--- `hexadecimal::are_digits` meets its contract, by the invariant of its loop. Assumes nothing.
-use mathlib.Core.Path.{refl, sym, ◌∙◌}
-use native.Mathlib.Omega.{arith}
+-- `hexadecimal::are_digits` meets its contract: each digit has a value. Assumes nothing.
+use mathlib.Core.Path.{◌∙◌}
 use borrow.Author.Rules.{rules}
-use Rattle.hexadecimal.proofs.Steps.{digits_more, digits_fail, digits_end}
+use Rattle.std.specs.Prelude.{is_some}
+use Rattle.std.proofs.lemmas.Iterator.Search.{all_from_yields_List}
+use Rattle.std.proofs.lemmas.Iterator.{YieldsList-from_slice}
+use Rattle.hexadecimal.specs.Hex.{digit_value}
+use Rattle.hexadecimal.proofs.Steps.{each_digit}
 use Rattle.hexadecimal.proofs.are_digits.Goals as goal
-
-pub loop-i-init : goal.loop-i-init
-loop-i-init c = (search rules, refl)
-
-pub returns-then-value-gt15 : goal.returns-then-value-gt15
-returns-then-value-gt15 c =
-    sym (c.loop-i.invariant.1 ∙ digits_fail _ c.loop-i.i (search rules) (omega arith))
-
-pub loop-i-preserved : goal.loop-i-preserved
-loop-i-preserved c =
-    (search rules, c.loop-i.invariant.1 ∙ digits_more _ c.loop-i.i (search rules) (omega arith))
 
 pub returns : goal.returns
 returns c =
-    sym (c.loop-i.invariant.1 ∙ digits_end _ c.loop-i.i (search rules))
+    all_from_yields_List (λ d. is_some (digit_value d)) _ _ _ c.all.ensures.ran (YieldsList-from_slice c.args.word.now cc) (λ x b q k. search rules)
+    ∙ each_digit c.args.word.now

@@ -1,8 +1,21 @@
--- `hexadecimal::byte` meets its contract: 16 bits have room for the sum. Assumes nothing.
-use borrow.Author.Rules.{rules}
-use Rattle.hexadecimal.specs.Hex.{byte_of}
+-- `hexadecimal::byte` meets its contract: of two digits, there is no more than a byte has room for. Assumes nothing.
+use native.Mathlib.Omega.{arith}
+use Rattle.hexadecimal.proofs.Steps.{digit_some, digit_is, byte_is}
 use Rattle.hexadecimal.proofs.byte.Goals as goal
 
+pub unwrap-requires : goal.unwrap-requires
+unwrap-requires c = rw c.value.ensures (digit_some _ c.requires.0)
+
+pub unwrap-requires-2 : goal.unwrap-requires-2
+unwrap-requires-2 c = rw c.value-2.ensures (digit_some _ c.requires.1)
+
+pub overflow_mul-result : goal.overflow_mul-result
+overflow_mul-result c = omega (arith, digit_is _ c.requires.0 c.value.ensures c.unwrap.ensures)
+
+pub overflow_add-result : goal.overflow_add-result
+overflow_add-result c =
+    omega (arith, digit_is _ c.requires.0 c.value.ensures c.unwrap.ensures, digit_is _ c.requires.1 c.value-2.ensures c.unwrap-2.ensures)
+
 pub returns : goal.returns
-unfolding byte_of
-returns c = search rules
+returns c =
+    byte_is _ _ c.requires.0 c.requires.1 (digit_is _ c.requires.0 c.value.ensures c.unwrap.ensures) (digit_is _ c.requires.1 c.value-2.ensures c.unwrap-2.ensures)

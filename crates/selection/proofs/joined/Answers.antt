@@ -1,20 +1,17 @@
 -- `selection::joined` meets its contract, by the invariant of its loop. Assumes nothing.
-use mathlib.Core.Bool.{true}
 use mathlib.Core.Path.{◌∙◌}
 use borrow.Author.Rules.{rules}
-use Rattle.selection.proofs.Loops.{marks_none, marks_turn, marks_done, together_in, together_else}
+use Rattle.selection.proofs.Loops.{marks_none, marks_turn, together_in, together_else}
 use Rattle.selection.proofs.joined.Goals as goal
-use Rattle.selection.proofs.joined.Goals.{then-layer-q, else-layer-q}
+use Rattle.selection.proofs.joined.Goals.{then-set-q, else-set-q}
 
 pub loop-q-init : goal.loop-q-init
-loop-q-init c = (search rules, marks_none _)
+loop-q-init c = marks_none _
 
 pub loop-q-preserved : goal.loop-q-preserved
 loop-q-preserved c =
-    elim c.if-layer-q.branch [
-      | then-layer-q w ↦ (search rules, w.out-is ∙ marks_turn _ _ _ c.loop-q.invariant.1 true (search rules) (together_in _ _ _ _ w.if-layer-q.true))
-      | else-layer-q w ↦ (search rules, w.out-is ∙ marks_turn _ _ _ c.loop-q.invariant.1 _ (search rules) (together_else _ _ _ _ w.if-layer-q.false))
-    ]
-
-pub returns : goal.returns
-returns c = marks_done _ _ _ c.loop-q.invariant.1 _ (search rules) (search rules)
+    marks_turn _ _ _ c.loop-q.invariant _ (search rules)
+    (elim c.if-set-q.branch [
+      | then-set-q w ↦ w.out-is ∙ together_in _ _ _ _ w.if-set-q.true
+      | else-set-q w ↦ w.out-is ∙ together_else _ _ _ _ w.if-set-q.false
+    ])

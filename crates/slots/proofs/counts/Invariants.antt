@@ -1,13 +1,9 @@
 -- The loop's invariant in `slots::counts`: n is the sum of the layers passed, and the table has their entries. Assumes nothing.
 use mathlib.Core.Path.{◌≡◌}
-use Prim.Native.Nat.{suc, ◌+◌, ◌-◌, ◌≤◌}
 use Rattle.paging.specs.Sets.{table}
-use Rattle.slots.specs.Slots.{near_to, tally_of}
+use Rattle.slots.specs.Slots.{near_to}
 use Rattle.slots.proofs.Running.{sum_before}
 use Rattle.slots.proofs.counts.Given as goal
 
 abbrev pub invariant-loop-j : goal.invariant-loop-j
-invariant-loop-j l = (l.j ≤ l.k + 1) × (l.n ≡ sum_before l.near l.k l.j) × (l.sums ≡ tally_of l.near l.k) × (l.counts ≡ table 65 l.j 0 (near_to l.near l.k))
-
-abbrev pub decreases-loop-j : goal.decreases-loop-j
-decreases-loop-j l = suc l.k - l.j
+invariant-loop-j l = (l.n ≡ sum_before l.near l.k l.j) × (l.counts ≡ table 65 l.j 0 (near_to l.near l.k))

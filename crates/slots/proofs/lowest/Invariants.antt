@@ -1,11 +1,7 @@
 -- The loop's invariant in `slots::lowest`: `least` is the least key of the slots passed. Assumes nothing.
 use mathlib.Core.Path.{◌≡◌}
-use Prim.Native.Nat.{◌≤◌, ◌-◌}
 use Rattle.slots.specs.Slots.{least_key}
 use Rattle.slots.proofs.lowest.Given as goal
 
 abbrev pub invariant-loop-s : goal.invariant-loop-s
-invariant-loop-s l = (l.s ≤ l.slots) × (l.least ≡ least_key l.near l.keys l.j l.s)
-
-abbrev pub decreases-loop-s : goal.decreases-loop-s
-decreases-loop-s l = l.slots - l.s
+invariant-loop-s l = l.least ≡ least_key l.near l.keys l.j l.s

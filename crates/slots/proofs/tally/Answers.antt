@@ -1,24 +1,17 @@
 -- `slots::tally` meets its contract, by the invariant of its loop. Assumes nothing.
-use mathlib.Core.Path.{◌≡◌}
+use mathlib.Core.Path.{◌∙◌}
 use native.Mathlib.Omega.{arith}
-use borrow.Author.Rules.{rules}
-use Rattle.slots.proofs.Loops.{tally_none, tally_most, tally_next}
+use Rattle.slots.proofs.Loops.{tally_none, tally_most, tally_next, taken}
 use Rattle.slots.proofs.tally.Goals as goal
 
-pub loop-s-init : goal.loop-s-init
-loop-s-init c = (search rules, tally_none _)
+pub loop-layer-init : goal.loop-layer-init
+loop-layer-init c = tally_none _
 
 pub overflow_add-sums : goal.overflow_add-sums
 overflow_add-sums c =
-    omega (arith, tally_most _ _ _ _ c.wide-j.ensures.0 c.wide-j.ensures.1 c.loop-s.invariant.1)
+    let t = taken _ _ _ c.loop-layer-test.true in
+    omega (arith, c.requires, t.below, tally_most _ _ _ _ (c.wide-j.ensures.0 ∙ t.same) c.wide-j.ensures.1 c.loop-layer.invariant)
 
-pub loop-s-preserved : goal.loop-s-preserved
-loop-s-preserved c = (
-  search rules,
-  tally_next _ _ _ _ c.wide-j.ensures.0 c.wide-j.ensures.1 c.loop-s.invariant.1,
-)
-
-pub returns : goal.returns
-returns c =
-    let e : c.loop-s.s ≡ c.args.slots = omega arith in
-    rw e at c.loop-s.invariant.1
+pub loop-layer-preserved : goal.loop-layer-preserved
+loop-layer-preserved c =
+    tally_next _ _ _ _ (c.wide-j.ensures.0 ∙ (taken _ _ _ c.loop-layer-test.true).same) c.wide-j.ensures.1 c.loop-layer.invariant

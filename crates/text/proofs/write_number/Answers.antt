@@ -1,6 +1,5 @@
 -- `text::write_number` meets its contract, by the invariant of its loop. Assumes nothing.
 use mathlib.Core.Path.{refl, sym, ◌∙◌}
-use Prim.Native.Nat.{◌-◌}
 use native.Mathlib.Omega.{arith}
 use borrow.Author.Rules.{rules}
 use lib.ListN.{length-set}
@@ -12,11 +11,11 @@ pub overflow_add-end : goal.overflow_add-end
 overflow_add-end c = omega (arith, decimal_short c.args.n)
 
 pub loop-i-init : goal.loop-i-init
-loop-i-init c = (omega (arith, decimal_short c.args.n), refl, number_first _ _ _ _ (search rules))
+loop-i-init c = (refl, number_first _ _ _ _ (search rules))
 
 pub loop-i-preserved : goal.loop-i-preserved
 loop-i-preserved c =
-    (search rules, simp length-set (search rules), number_more _ _ _ _ (search rules) (search rules) ∙ c.loop-i.invariant.2)
+    (simp length-set (search rules), number_more _ _ _ _ (search rules) (search rules) ∙ c.loop-i.invariant.1)
 
 pub returns : goal.returns
-returns c = record { offset = search rules; text = sym (number_last _ _ _ _ (search rules)) ∙ c.loop-i.invariant.2 }
+returns c = record { offset = search rules; text = sym (number_last _ _ _ _ (search rules)) ∙ c.loop-i.invariant.1 }

@@ -1,18 +1,7 @@
--- `text::write_word` meets its contract, by the invariant of its loop. Assumes nothing.
-use mathlib.Core.Path.{refl, sym}
-use Prim.Native.Nat.{◌-◌}
-use borrow.Author.Rules.{rules}
-use lib.ListN.{length-set}
-use Rattle.words.specs.Laws.{put_none}
-use Rattle.text.proofs.Steps.{word_more, word_all}
+-- `text::write_word` meets its contract: the word in the part's place. Assumes nothing.
+use native.Mathlib.Omega.{arith}
+use Rattle.text.proofs.Steps.{copied}
 use Rattle.text.proofs.write_word.Goals as goal
 
-pub loop-i-init : goal.loop-i-init
-loop-i-init c = (search rules, refl, sym (put_none _ _))
-
-pub loop-i-preserved : goal.loop-i-preserved
-loop-i-preserved c =
-    (search rules, simp length-set (search rules), word_more _ _ _ _ _ (search rules) (search rules) (search rules) c.loop-i.invariant.2)
-
-pub returns : goal.returns
-returns c = record { offset = search rules; text = word_all _ _ _ c.loop-i.i _ (search rules) c.loop-i.invariant.2 }
+pub returns-clause-text : goal.returns-clause-text
+returns-clause-text c = copied _ _ _ _ _ (omega arith) c.copy_from_slice.ensures.after

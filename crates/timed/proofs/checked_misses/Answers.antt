@@ -1,6 +1,5 @@
 -- `timed::checked_misses` meets its contract, by the invariant of its loop. Assumes nothing.
 use mathlib.Core.Path.{ap}
-use Prim.Native.Nat.{◌-◌}
 use borrow.Author.Rules.{rules}
 use Rattle.run.specs.declared.Run.{Run}
 use Rattle.timed.specs.Timed.{going_first, going_next, going_last}
@@ -12,7 +11,7 @@ loop-i-init c = going_first _ _ _ _
 pub loop-i-preserved : goal.loop-i-preserved
 loop-i-preserved c =
     going_next _ _ _ _ _ _ c.loop-i.invariant _ _ (search rules)
-    c.request_at-page.ensures c.request-served.ensures.answer
+    c.request_at-page.ensures (rw c.from.ensures at c.request-served.ensures.answer)
 
 pub returns : goal.returns
 returns c = ap (λ (r : Run). r.counts.misses) (going_last _ _ _ _ _ _ c.loop-i.invariant (search rules))

@@ -1,21 +1,7 @@
 -- `words::read_u16` meets its contract. Assumes nothing.
-use Prim.Native.Nat.{◌+◌}
-use native.Mathlib.Omega.{arith}
+use mathlib.Core.Path.{◌∙◌}
 use Rattle.words.proofs.Steps.{read_two}
 use Rattle.words.proofs.read_u16.Goals as goal
 
-pub overflow_cast-result : goal.overflow_cast-result
-overflow_cast-result c = omega (arith, c.type_inv.s c.args.at)
-
-pub overflow_cast-result-2 : goal.overflow_cast-result-2
-overflow_cast-result-2 c = omega (arith, c.type_inv.s (c.args.at + 1))
-
-pub overflow_mul-result : goal.overflow_mul-result
-overflow_mul-result c = omega (arith, c.type_inv.s (c.args.at + 1))
-
-pub overflow_add-result-2 : goal.overflow_add-result-2
-overflow_add-result-2 c =
-    omega (arith, c.type_inv.s c.args.at, c.type_inv.s (c.args.at + 1))
-
 pub returns : goal.returns
-returns c = read_two _ _ c.requires
+returns c = c.from_le_bytes.ensures ∙ read_two _ _ c.requires

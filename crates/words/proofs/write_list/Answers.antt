@@ -5,11 +5,11 @@ use Rattle.words.proofs.Steps.{list_none, list_more, list_all}
 use Rattle.words.proofs.write_list.Goals as goal
 
 pub loop-i-init : goal.loop-i-init
-loop-i-init c = (search rules, refl, list_none 2 _ _)
+loop-i-init c = (refl, list_none 2 _ _)
 
 pub loop-i-preserved : goal.loop-i-preserved
 loop-i-preserved c =
-    (search rules, search rules, list_more 2 _ _ _ _ _ _ (search rules) (search rules) c.loop-i.invariant.2 c.write_u16.ensures)
+    (search rules, list_more 2 _ _ _ _ _ _ (search rules) (search rules) c.loop-i.invariant.1 c.write_u16.ensures)
 
 pub returns : goal.returns
-returns c = list_all 2 _ _ _ _ _ c.loop-i-test.false c.loop-i.invariant.2
+returns c = list_all 2 _ _ _ _ _ (search rules) c.loop-i.invariant.1

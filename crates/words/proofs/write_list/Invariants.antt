@@ -1,13 +1,9 @@
 -- The loop's invariant in `words::write_list`: the first i numbers stand where they belong, and the rest is as it was. Assumes
 -- nothing.
 use mathlib.Core.Path.{◌≡◌}
-use Prim.Native.Nat.{◌-◌, ◌≤◌}
 use lib.ListN.{length, take}
 use Rattle.words.specs.Words.{words, put}
 use Rattle.words.proofs.write_list.Given as goal
 
 abbrev pub invariant-loop-i : goal.invariant-loop-i
-invariant-loop-i l = (l.i ≤ length l.list) × (length l.s ≡ length l.initial.s) × (l.s ≡ put l.initial.s l.at (words 2 (take l.i l.list)))
-
-abbrev pub decreases-loop-i : goal.decreases-loop-i
-decreases-loop-i l = length l.list - l.i
+invariant-loop-i l = (length l.s ≡ length l.initial.s) × (l.s ≡ put l.initial.s l.at (words 2 (take l.i l.list)))

@@ -1,11 +1,9 @@
 -- `words::write_u16` meets its contract. Assumes nothing.
-use native.Mathlib.Omega.{arith}
-use lib.ListN.{length-set}
-use Rattle.words.proofs.Steps.{write_two}
+use mathlib.Core.Path.{refl, ◌∙◌}
+use Rattle.words.specs.Words.{bytes}
+use Rattle.words.proofs.Steps.{put_bytes}
 use Rattle.words.proofs.write_u16.Goals as goal
 
-pub bounds-s-at-2 : goal.bounds-s-at-2
-bounds-s-at-2 c = simp length-set (omega arith)
-
 pub returns : goal.returns
-returns c = write_two _ _ _ c.requires
+unfolding bytes
+returns c = put_bytes 2 _ _ _ _ _ (c.copy_from_slice.ensures.after ∙ c.to_le_bytes.ensures) refl

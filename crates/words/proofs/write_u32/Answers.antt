@@ -1,8 +1,7 @@
 -- `words::write_u32` meets its contract. Assumes nothing.
-use borrow.Author.Rules.{rules}
-use Rattle.words.proofs.Steps.{write_four}
+use mathlib.Core.Path.{◌∙◌}
+use Rattle.words.proofs.Steps.{put_bytes, low_first_4}
 use Rattle.words.proofs.write_u32.Goals as goal
 
 pub returns : goal.returns
-returns c =
-    write_four _ _ _ _ _ (search rules) c.write_u16.ensures c.write_u16-2.ensures
+returns c = put_bytes 4 _ _ _ _ _ (c.copy_from_slice.ensures.after ∙ c.to_le_bytes.ensures) (low_first_4 _)

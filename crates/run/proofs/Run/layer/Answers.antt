@@ -1,18 +1,22 @@
 -- `Run::layer` meets its contract. Assumes nothing.
-use mathlib.Core.Path.{◌≡◌, sym, ◌∙◌}
+use mathlib.Core.Path.{refl, sym, ap, ◌∙◌}
 use native.Mathlib.Omega.{arith}
 use borrow.Author.Rules.{rules}
+use Rattle.refusals.specs.Numbers.{told}
+use Rattle.refusals.specs.Laws.{told_fine, given_some, number_some}
 use Rattle.run.proofs.Asking.{question_allowed, layer_refused, layer_told}
 use Rattle.run.proofs.Run.layer.Goals as goal
 
-pub returns-then-refusal-ne0 : goal.returns-then-refusal-ne0
-returns-then-refusal-ne0 c = layer_refused _ _ _ c.question_refusal-refusal.ensures (search rules)
+pub returns-in-Err : goal.returns-in-Err
+returns-in-Err c =
+    let told_is = sym (ap told c.in-Err.is) ∙ c.question_refusal.ensures in
+    rw (given_some _ _ told_is) (layer_refused _ _ _ refl (λ z. number_some _ (told_is ∙ z)))
 
 pub bounds-layer-page : goal.bounds-layer-page
 bounds-layer-page c =
-    let z : c.question_refusal-refusal.result ≡ 0 = search rules in
-    let (w, l) = question_allowed _ _ (sym c.question_refusal-refusal.ensures ∙ z) in
+    let z = told_fine _ c.in_default.not-Err in
+    let (w, l) = question_allowed _ _ (sym c.question_refusal.ensures ∙ z) in
     omega (arith, w.pages)
 
 pub returns : goal.returns
-returns c = layer_told _ _ _ c.question_refusal-refusal.ensures (search rules)
+returns c = layer_told _ _ _ c.question_refusal.ensures (told_fine _ c.in_default.not-Err)

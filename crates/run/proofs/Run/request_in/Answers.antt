@@ -2,64 +2,71 @@
 use mathlib.Core.Path.{◌≡◌, sym, ap, ◌∙◌}
 use native.Mathlib.Omega.{arith}
 use borrow.Author.Rules.{rules}
+use denote.Enum.Bare.{same_true, same_false}
+use Rattle.refusals.specs.contracts.Refusal.{the_type}
+use Rattle.refusals.specs.declared.Refusal.TheVariants.{Unsound}
+use Rattle.refusals.specs.Numbers.{told}
+use Rattle.refusals.specs.Laws.{told_fine}
 use Rattle.serve.specs.declared.Event.TheVariants.{Refused}
 use Rattle.run.specs.declared.Served.{Served}
 use Rattle.run.proofs.Storing.{restored_refused, restored_unequal, restored_unsound, restored_accepted, image_fits, run_pages, run_slots, agree_in, sound_in, in_refused, in_accepted, one_unsound, not_one_sound}
 use Rattle.run.proofs.Refusals.{other_refusal}
 use Rattle.run.proofs.Run.request_in.Goals as goal
 
-pub returns-then-number-ne0 : goal.returns-then-number-ne0
-returns-then-number-ne0 c =
+pub returns-in-Err : goal.returns-in-Err
+returns-in-Err c =
     in_refused _ _ _ _ _ c.blank.ensures
-    (restored_refused _ _ c.refusal-number.ensures _ (search rules) c.blank.ensures)
+    (restored_refused _ _ c.refusal.ensures _ _ (sym (ap told c.in-Err.is)) c.blank.ensures)
     c.refused.ensures
 
 pub of_image-self-requires : goal.of_image-self-requires
 of_image-self-requires c =
-    let z : c.refusal-number.result ≡ 0 = search rules in
-    sym c.refusal-number.ensures ∙ z
+    let z = told_fine _ c.in_default.not-Err in
+    sym c.refusal.ensures ∙ z
 
 pub agree-requires : goal.agree-requires
 agree-requires c =
-    let z : c.refusal-number.result ≡ 0 = search rules in
-    let f = image_fits _ _ _ (sym c.refusal-number.ensures ∙ z) (run_pages _ _ c.of_image-self.ensures) (run_slots _ _ c.of_image-self.ensures) in
+    let z = told_fine _ c.in_default.not-Err in
+    let f = image_fits _ _ _ (sym c.refusal.ensures ∙ z) (run_pages _ _ c.of_image-self.ensures) (run_slots _ _ c.of_image-self.ensures) in
     (f.0, f.1, omega arith)
 
 pub returns-then-not-agree : goal.returns-then-not-agree
 returns-then-not-agree c =
     in_refused _ _ _ _ _ c.blank-then-not-agree.ensures
-    (restored_unequal _ _ c.refusal-number.ensures (search rules) _
+    (restored_unequal _ _ c.refusal.ensures (told_fine _ c.in_default.not-Err) _
     (sym (agree_in _ _ c.of_image-self.ensures) ∙ (sym c.agree.ensures ∙ c.if-not-agree.true))
     c.blank-then-not-agree.ensures)
     c.refused-then-not-agree.ensures
 
-pub returns-then-number-eq1 : goal.returns-then-number-eq1
-returns-then-number-eq1 c =
-    let one = sym (ap (λ (s : Served). s.event) c.request-served.ensures.answer) ∙ (c.in-Refused.is ∙ ap Refused c.if-number-eq1.true) in
-    in_refused _ _ _ _ _ c.blank-then-number-eq1.ensures
-    (restored_unsound _ _ c.refusal-number.ensures (search rules)
+pub returns-then-eq : goal.returns-then-eq
+returns-then-eq c =
+    let is : c.in-Refused.refusal ≡ Unsound = same_true the_type (search rules) _ _ (sym c.eq.ensures ∙ c.if-eq.true) in
+    let one = sym (ap (λ (s : Served). s.event) c.request-served.ensures.answer) ∙ (c.in-Refused.is ∙ ap Refused is) in
+    in_refused _ _ _ _ _ c.blank-then-eq.ensures
+    (restored_unsound _ _ c.refusal.ensures (told_fine _ c.in_default.not-Err)
     (sym (agree_in _ _ c.of_image-self.ensures) ∙ (sym c.agree.ensures ∙ c.if-not-agree.false))
     _
     (sym (sound_in _ _ c.of_image-self.ensures) ∙ one_unsound _ _ one)
-    c.blank-then-number-eq1.ensures)
-    c.refused-then-number-eq1.ensures
+    c.blank-then-eq.ensures)
+    c.refused-then-eq.ensures
 
-pub returns-else-number-eq1 : goal.returns-else-number-eq1
-returns-else-number-eq1 c =
-    let sound_is = not_one_sound _ _ (λ e. other_refusal _ 1 c.if-number-eq1.false (sym c.in-Refused.is ∙ (ap (λ (s : Served). s.event) c.request-served.ensures.answer ∙ e))) in
+pub returns-else-eq : goal.returns-else-eq
+returns-else-eq c =
+    let other : c.in-Refused.refusal ≡ Unsound → ⊥ = same_false the_type _ _ (sym c.eq.ensures ∙ c.if-eq.false) in
+    let sound_is = not_one_sound _ _ (λ e. other_refusal _ Unsound other (sym c.in-Refused.is ∙ (ap (λ (s : Served). s.event) c.request-served.ensures.answer ∙ e))) in
     in_accepted _ _ _ _
-    (restored_accepted _ _ c.refusal-number.ensures (search rules)
+    (restored_accepted _ _ c.refusal.ensures (told_fine _ c.in_default.not-Err)
     (sym (agree_in _ _ c.of_image-self.ensures) ∙ (sym c.agree.ensures ∙ c.if-not-agree.false))
     _
     c.of_image-self.ensures
     sound_is)
     c.request-served.ensures.answer
 
-pub returns-in_default : goal.returns-in_default
-returns-in_default c =
-    let sound_is = not_one_sound _ _ (λ e. c.in_default.not-Refused 1 (ap (λ (s : Served). s.event) c.request-served.ensures.answer ∙ e)) in
+pub returns-in_default-event : goal.returns-in_default-event
+returns-in_default-event c =
+    let sound_is = not_one_sound _ _ (λ e. c.in_default-event.not-Refused Unsound (ap (λ (s : Served). s.event) c.request-served.ensures.answer ∙ e)) in
     in_accepted _ _ _ _
-    (restored_accepted _ _ c.refusal-number.ensures (search rules)
+    (restored_accepted _ _ c.refusal.ensures (told_fine _ c.in_default.not-Err)
     (sym (agree_in _ _ c.of_image-self.ensures) ∙ (sym c.agree.ensures ∙ c.if-not-agree.false))
     _
     c.of_image-self.ensures

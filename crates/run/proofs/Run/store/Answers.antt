@@ -1,44 +1,50 @@
 -- `Run::store` meets its contract: what is not refused is written. Assumes nothing.
-use mathlib.Core.Path.{◌≡◌, sym, ◌∙◌}
+use mathlib.Core.Path.{refl, sym, ap, ◌∙◌}
 use native.Mathlib.Omega.{arith}
 use borrow.Author.Rules.{rules}
+use Rattle.refusals.specs.Numbers.{told}
+use Rattle.refusals.specs.Laws.{told_fine, given_some, number_some}
 use Rattle.run.specs.Stored.{image_of}
 use Rattle.run.proofs.Storing.{store_fits, stored_refused, stored_untouched, stored_told, stored_put, length_is}
 use Rattle.run.proofs.Run.store.Goals as goal
 
-pub returns-then-refusal-ne0 : goal.returns-then-refusal-ne0
-returns-then-refusal-ne0 c =
-    record { answer = stored_refused _ _ _ c.store_refusal-refusal.ensures (search rules); buffer = stored_untouched _ _ _ c.store_refusal-refusal.ensures (search rules) }
+pub returns-in-Err : goal.returns-in-Err
+returns-in-Err c =
+    let told_is = sym (ap told c.in-Err.is) ∙ c.store_refusal.ensures in
+    record {
+      answer = rw (given_some _ _ told_is) (stored_refused _ _ _ refl (λ z. number_some _ (told_is ∙ z)));
+      buffer = stored_untouched _ _ _ refl (λ z. number_some _ (told_is ∙ z));
+    }
 
 pub write-requires : goal.write-requires
 write-requires c =
-    let z : c.store_refusal-refusal.result ≡ 0 = search rules in
-    let all = store_fits _ _ (sym c.store_refusal-refusal.ensures ∙ z) in record { limits = all.0; narrow = all.1 }
+    let z = told_fine _ c.in_default.not-Err in
+    let all = store_fits _ _ (sym c.store_refusal.ensures ∙ z) in record { limits = all.0; narrow = all.1 }
 
 pub overflow_mul-result : goal.overflow_mul-result
 overflow_mul-result c =
-    let z : c.store_refusal-refusal.result ≡ 0 = search rules in
-    let f = store_fits _ _ (sym c.store_refusal-refusal.ensures ∙ z) in
+    let z = told_fine _ c.in_default.not-Err in
+    let f = store_fits _ _ (sym c.store_refusal.ensures ∙ z) in
     omega (arith, f.0)
 
 pub overflow_add-result : goal.overflow_add-result
 overflow_add-result c =
-    let z : c.store_refusal-refusal.result ≡ 0 = search rules in
-    let f = store_fits _ _ (sym c.store_refusal-refusal.ensures ∙ z) in
+    let z = told_fine _ c.in_default.not-Err in
+    let f = store_fits _ _ (sym c.store_refusal.ensures ∙ z) in
     omega (arith, f.0)
 
 pub overflow_mul-result-2 : goal.overflow_mul-result-2
 overflow_mul-result-2 c =
-    let z : c.store_refusal-refusal.result ≡ 0 = search rules in
-    let f = store_fits _ _ (sym c.store_refusal-refusal.ensures ∙ z) in
+    let z = told_fine _ c.in_default.not-Err in
+    let f = store_fits _ _ (sym c.store_refusal.ensures ∙ z) in
     omega (arith, f.0)
 
 pub overflow_add-result-2 : goal.overflow_add-result-2
 overflow_add-result-2 c =
-    let z : c.store_refusal-refusal.result ≡ 0 = search rules in
-    let f = store_fits _ _ (sym c.store_refusal-refusal.ensures ∙ z) in
+    let z = told_fine _ c.in_default.not-Err in
+    let f = store_fits _ _ (sym c.store_refusal.ensures ∙ z) in
     omega (arith, f.0)
 
 pub returns : goal.returns
 unfolding image_of
-returns c = record { answer = stored_told _ _ _ c.store_refusal-refusal.ensures _ (search rules) (length_is _ _); buffer = stored_put _ _ _ c.store_refusal-refusal.ensures _ (search rules) c.write.ensures }
+returns c = record { answer = stored_told _ _ _ c.store_refusal.ensures _ (told_fine _ c.in_default.not-Err) (length_is _ _); buffer = stored_put _ _ _ c.store_refusal.ensures _ (told_fine _ c.in_default.not-Err) c.write.ensures }
