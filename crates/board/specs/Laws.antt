@@ -3,15 +3,13 @@ use Rattle.std.specs.Prelude.{Bool, true, false, List, ◌⊎◌, ◌≡◌, ref
 use Rattle.std.specs.Result.{is_ok}
 use Rattle.std.proofs.Common.{inl, inr, sym, ap, subst, ◌∙◌, arith, eqb-true}
 use Rattle.std.proofs.Math.Logic.{⊎_elim}
-use Rattle.std.proofs.lemmas.Bool.{eqb-false}
 use Rattle.serve.specs.declared.Event.{Event}
 use Rattle.serve.specs.declared.Event.TheVariants.{Hit, Miss, Refused}
 use Rattle.run.specs.declared.Run.{Run}
 use Rattle.run.specs.declared.Served.{Served}
 use Rattle.refusals.specs.declared.Refusal.{Refusal}
 use Rattle.refusals.specs.declared.Refusal.TheVariants.{Unsound}
-use Rattle.refusals.specs.Numbers.{number, named}
-use Rattle.refusals.specs.Laws.{number_some}
+use Rattle.refusals.specs.Numbers.{named}
 use Rattle.paging.specs.Tests.{truth, clash, same_or_not}
 use Rattle.image.specs.Layout.{image_length, pages_in, slots_in, image_refusal, marks_agree}
 use Rattle.image.proofs.Laws.{Read, refusal_read}

@@ -1,5 +1,5 @@
 // The soundness test of a run's tables, in flat passes: O(N + k). That the cached set is the selection is seen by its
-// certificate, without building the selection. Assumes nothing.
+// certificate, without building the selection. Tables are of fixed size, as in the crates `layers` and `slots`. Assumes nothing.
 #![tactic(auto)]
 
 ghost use Rattle.std.specs.Prelude.{◌≡◌, List, Bool, true, false, ◌&&◌, ◌||◌, ℕ, suc, ◌<◌, ◌≤◌, length, replicate, slice_index_or};
@@ -129,7 +129,8 @@ fn certificate<'a>(
     none_late(layer, keys, marks, &limits, pages) && has_room(&counts, k)
 }
 
-// The clauses of a sound run that speak of its tables of layers and slots, where `keys` stand for its ranking.
+// The clauses of a sound run that speak of its tables of layers and slots, where `keys` stand for its ranking. It takes the parts of
+// a run, and no struct of them, so that nothing is copied to have them tested.
 pub fn tables<'a>(
     layer: &'a [u8; 1024],
     keys: &'a [Key; 1024],

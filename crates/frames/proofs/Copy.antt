@@ -1,12 +1,11 @@
 -- What a copy over the start of a part leaves of the part and of the whole. Assumes nothing.
 use mathlib.Core.List.{List, ◌++◌, append-nil}
-use mathlib.Core.Path.{◌≡◌, ◌∙◌}
-use Prim.Native.Nat.{ℕ, suc, ◌+◌, ◌-◌, ◌≤◌, ◌<◌}
+use mathlib.Core.Path.{◌≡◌}
+use Prim.Native.Nat.{ℕ, ◌+◌, ◌-◌, ◌≤◌}
 use native.Mathlib.Nat.{zero-add}
-use native.Mathlib.Numerals.{add-one}
 use native.Mathlib.Omega.{arith}
-use lib.ListN.{length, get_or, set, take, drop, length-drop}
-use lib.Seq.{paste-suc, take_all, drop-length, drop-drop, length-take-le}
+use lib.ListN.{length, drop, length-drop}
+use lib.Seq.{take_all, drop-length, drop-drop}
 use borrow.Rule.Slice.PartMut.{mid_of, put_mid, Post-is}
 use Rattle.words.specs.Words.{put}
 

@@ -118,6 +118,11 @@ module _ (b : List ℕ) where
       (eq-eqb (word_at 4 b 28) (36 + pages_in b) o.slots))
       (eq-eqb (word_at 4 b 32) (36 + pages_in b + 2 * slots_in b) o.priorities)
 
+  -- where the first two are right, the third decides
+  pub offsets_last : word_at 4 b 24 ≡ 36 → word_at 4 b 28 ≡ 36 + pages_in b → priorities_right ≡ offsets_right b
+  unfolding offsets_right
+  offsets_last p q = rw (eq-eqb (word_at 4 b 24) 36 p, eq-eqb (word_at 4 b 28) (36 + pages_in b) q)
+
 -- ---- each refusal, from the numbers
 
 module _ (b : List ℕ) where

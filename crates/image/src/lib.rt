@@ -1,4 +1,5 @@
-// A stored run in bytes: the marks, the header's refusals, the tables of an image, and the writer. Assumes nothing.
+// A stored run in bytes: the marks, the header's refusals, the tables of an image, and the writer. Tables are of fixed size, as in the
+// crates `layers` and `slots`. Assumes nothing.
 #![tactic(auto)]
 
 ghost use Rattle.std.specs.Prelude.{false, ◌++◌, ◌≡◌, ℕ, ◌+◌, ◌*◌, ◌%◌, ◌≤◌, ◌<◌, length, slice_index_or};

@@ -1,4 +1,6 @@
-// The layer table: how a request moves it, and the tests of a sound run that look at it. Assumes nothing.
+// The layer table: how a request moves it, and the tests of a sound run that look at it. The tables are of fixed size and used up to
+// `pages` and `slots`, since nothing allocates; these are numbers with a clause, since a type of them would be made anew at each call.
+// Assumes nothing.
 #![tactic(auto)]
 
 ghost use Rattle.std.specs.Prelude.{◌≡◌, ℕ, suc, ◌<◌, ◌≤◌, length, drop, take, slice_index_or};

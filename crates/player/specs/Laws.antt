@@ -28,7 +28,7 @@ use Rattle.player.specs.Answer.{lines, answer_bytes, answer_length, answered}
 
 -- ---- no answer is longer than the room of the longest
 
-lines_short : (r : Run) (ps : List ℕ) → length (lines r ps) ≤ 100 * length ps + 108
+pub lines_short : (r : Run) (ps : List ℕ) → length (lines r ps) ≤ 100 * length ps + 108
 unfolding lines
 lines_short r [] = last_line_short r.counts.served r.counts.hits r.counts.misses r.counts.best
 lines_short r (p ∷ ps) =
@@ -59,10 +59,10 @@ answer_short b = ⊎_elim fine bad (same_or_not (trace_refusal b) 0)
 
 -- ---- the lines of requests as they are played, and the last line behind them
 
-abbrev last_of : Counts → List ℕ
+abbrev pub last_of : Counts → List ℕ
 last_of c = last_line c.served c.hits c.misses c.best
 
-lines_are : (r : Run) (ps : List ℕ) → lines r ps ≡ event_lines r ps ++ last_of (run_after r ps).counts
+pub lines_are : (r : Run) (ps : List ℕ) → lines r ps ≡ event_lines r ps ++ last_of (run_after r ps).counts
 unfolding lines event_lines run_after
 lines_are r [] = refl
 lines_are r (p ∷ ps) =
@@ -103,7 +103,7 @@ module _ (b : List ℕ) where
   answer_counted size = omega (arith, answer_short b)
 
   module _ (t : Traced) (t_is : t ≡ traced b) where
-    refusal_is : number_in t.refusal ≡ trace_refusal b
+    pub refusal_is : number_in t.refusal ≡ trace_refusal b
     refusal_is = rw t_is (told_refusal b)
 
     pub refused_bytes : (number_in t.refusal ≡ 0 → ⊥) → refused_line (number_in t.refusal) ≡ answer_bytes b
@@ -114,7 +114,7 @@ module _ (b : List ℕ) where
       ok : trace_refusal b ≡ 0
       ok = sym refusal_is ∙ accepted_is
 
-      requests_is : t.requests ≡ requests_in b
+      pub requests_is : t.requests ≡ requests_in b
       requests_is = rw (t_is, accepted_read b ok)
 
       offset_is : t.offset ≡ request_offset b

@@ -13,7 +13,7 @@ use Rattle.paging.specs.Sets.{◌∈◌, Same, bit, count, remove, insert, table
 use Rattle.paging.specs.Ranking.{Ranking}
 use Rattle.paging.specs.Layers.{in_layer, next, Layered}
 use Rattle.paging.specs.Selection.{chosen}
-use Rattle.paging.specs.Tests.{clash, is, same_test, bit_le, same_or_not, le_or_lt}
+use Rattle.paging.specs.Tests.{clash, same_test, bit_le, same_or_not, le_or_lt}
 use Rattle.paging.specs.Count.{remove_in, remove_was, remove_not, insert_self, insert_in, insert_cases}
 use Rattle.paging.specs.Tables.{table_at, table_past}
 use Rattle.paging.proofs.Moves.{next_zero}

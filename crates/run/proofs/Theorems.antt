@@ -1,7 +1,7 @@
 -- What holds of the calls on a run. Each call's contract is that it answers as `started`, `requested`, `tried` and the others say
 -- (Start, Request, Questions), so these are theorems about the calls. Assumes nothing.
 use Rattle.std.proofs.Math.Bool.{true}
-use Rattle.std.specs.Prelude.{false, List, [], ◌∷◌, ◌++◌, ◌⊎◌, ◌≡◌, refl, ℕ, ◌+◌, ◌≤◌, ◌<◌, set, nat_eq, Some, None}
+use Rattle.std.specs.Prelude.{false, List, [], ◌∷◌, ◌++◌, ◌⊎◌, ◌≡◌, refl, ℕ, ◌+◌, ◌≤◌, ◌<◌, set, nat_eq, None}
 use Rattle.std.proofs.Math.Logic.{inl, ⊎_elim}
 use Rattle.std.proofs.Common.{inr, sym, subst, ◌∙◌, arith}
 use Rattle.std.proofs.Math.Option.{some}
@@ -17,7 +17,7 @@ use Rattle.paging.specs.Sets.{bit, remove, insert}
 use Rattle.paging.specs.Layers.{start_layer, next}
 use Rattle.paging.specs.Schedule.{Below, Least}
 use Rattle.paging.specs.Best.{State, after, seen, start}
-use Rattle.paging.specs.Tests.{truth, is, same_or_not, le_or_lt}
+use Rattle.paging.specs.Tests.{truth, same_or_not, le_or_lt}
 use Rattle.paging.proofs.Lower.{after_full}
 use Rattle.paging.proofs.FullRuns.{serve_full_is, after_more, below_more, least_same}
 use Rattle.paging.proofs.Theorems.{start_least}

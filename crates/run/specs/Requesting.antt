@@ -1,5 +1,5 @@
 -- The refusals of a request, as the code takes them. Assumes nothing.
-use Rattle.std.specs.Prelude.{ℕ, ◌<◌}
+use Rattle.std.specs.Prelude.{ℕ}
 use Rattle.run.specs.declared.Run.{Run}
 use Rattle.paging.specs.Sets.{◌<?◌, unless◌give◌else◌}
 use Rattle.counts.specs.Counts.{most_served}

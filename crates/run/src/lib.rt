@@ -44,24 +44,28 @@ pub struct Served {
     pub best: u32,
 }
 
+// A start. Kept beside its refusal: document 01 gives every refusal a value, here the blank run, and the clause `started` says it.
 #[derive(Clone, Copy)]
 pub struct Started {
     pub run: Run,
     pub refusal: Option<Refusal>,
 }
 
+// The layer of a page. Kept beside its refusal: document 01 gives every refusal a value, here layer 0, and the clause `layer_answer` says it.
 #[derive(Clone, Copy)]
 pub struct LayerAnswer {
     pub layer: u8,
     pub refusal: Option<Refusal>,
 }
 
+// Whether a page is certain. Kept beside its refusal: document 01 gives every refusal a value, here false, and the clause `certain_answer` says it.
 #[derive(Clone, Copy)]
 pub struct CertainAnswer {
     pub certain: bool,
     pub refusal: Option<Refusal>,
 }
 
+// The plain selection. Kept beside its refusal: document 01 gives every refusal a value, here the empty set, and the clause `selection_answer` says it.
 #[derive(Clone, Copy)]
 pub struct SelectionAnswer {
     pub pages: [bool; 1024],
@@ -75,7 +79,7 @@ pub struct Restored {
     pub event: Result<(), Refusal>,
 }
 
-// What the image writer answers: how many bytes it wrote.
+// What the image writer answers: how many bytes it wrote. Kept beside its refusal: document 01 gives every refusal a value, here 0, and the clause `stored` says it.
 #[derive(Clone, Copy)]
 pub struct Stored {
     pub length: usize,
@@ -136,7 +140,7 @@ impl Run {
         }
     }
 
-    // The same with the default priorities.
+    // The same with the default priorities: document 01's other start. What both do is `begin::refusal` and `begun`.
     pub fn start_default(pages: usize, slots: usize, list: &[u16]) -> Started
         ensures { result ≡ started_default pages slots list.now }
     {
@@ -413,22 +417,30 @@ impl Run {
         }
     }
 
+    // A request to the run in an image that the reader refuses: the blank run comes back. As a function of its own, so that a request that
+    // is served makes no blank run.
+    fn unread(refusal: Refusal) -> Served
+        ensures { result ≡ refused blank_run refusal }
+    {
+        Run::blank().refused(refusal)
+    }
+
     // Takes up the run in an image in this one's place and serves a request of it, with one soundness test for both. Refusals: the
     // image reader's, with the blank run; then 8, 9, 17, with the run in the image.
     pub fn request_in(mut self, image: &[u8], page: usize) -> Served
         ensures { result ≡ requested_in image.now page }
     {
         if let Err(refusal) = image::refusal(image, Run::MAX_PAGES, Run::MAX_SLOTS) {
-            return Run::blank().refused(refusal);
+            return Run::unread(refusal);
         }
         self = Run::of_image(image);
         if !image::agree(image, self.pages, self.slots) {
-            return Run::blank().refused(Refusal::Unsound);
+            return Run::unread(Refusal::Unsound);
         }
         let served = self.request(page);
         if let Event::Refused(refusal) = served.event {
             if refusal == Refusal::Unsound {
-                return Run::blank().refused(Refusal::Unsound);
+                return Run::unread(Refusal::Unsound);
             }
         }
         served

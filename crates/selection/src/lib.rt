@@ -1,5 +1,5 @@
 // The plain selection, set after set, over a copied layer table and the key of each page: arrays go in by value, and a new array of
-// marks comes back. Assumes nothing.
+// marks comes back, as document 01 has it; their sizes are fixed and used up to `pages`, since nothing allocates. Assumes nothing.
 #![tactic(auto)]
 
 ghost use Rattle.std.specs.Prelude.{◌&&◌, ◌≡◌, ◌<◌, ◌≤◌};

@@ -101,7 +101,8 @@ fn swap<'a>(
     Event::Miss { slot: s, victim }
 }
 
-// A request of `page`, whose key after it is `key`: the event, and the arrays after it.
+// A request of `page`, whose key after it is `key`: the event, and the arrays after it. They stay parameters, which is faster than a
+// struct of them: `replay::ask` says how much.
 #[tactic(auto, using(crate::proofs::Swaps::here, crate::proofs::Swaps::away))]
 pub fn step<'a>(
     layer: &'a mut [u8; 1024],

@@ -1,4 +1,6 @@
-// The slots of a run: where a page is, and the searches of a miss over the layers and keys of the pages in them. Assumes nothing.
+// The slots of a run: where a page is, and the searches of a miss. The tables are of fixed size and used up to
+// `pages` and `slots`, since nothing allocates; these are numbers with a clause, since a type of them would be made anew at each call.
+// Assumes nothing.
 #![tactic(auto)]
 
 ghost use Rattle.std.specs.Prelude.{◌≡◌, ◌&&◌, ℕ, suc, ◌<◌, ◌≤◌, slice_index_or, if◌then◌else◌};

@@ -13,7 +13,8 @@ ghost use Rattle.trace.specs.Writing.{Fits, no_file};
 use refusals::Refusal;
 use run::Run;
 
-// What the reader answers: the started run, the number of requests, and where they begin.
+// What the reader answers: the started run, the number of requests, and where they begin. Kept beside its refusal as in the crate
+// `run`: the blank run and zeros then, which the clause `traced` says.
 #[derive(Clone, Copy)]
 pub struct Traced {
     pub run: Run,
@@ -22,7 +23,8 @@ pub struct Traced {
     pub refusal: Option<Refusal>,
 }
 
-// What the writer answers: how many bytes it wrote.
+// What the writer answers: how many bytes it wrote. Kept beside its refusal as in the crate `run`, and apart from the image
+// writer's answer: the theorem `refused_write` names both of its values.
 #[derive(Clone, Copy)]
 pub struct Written {
     pub length: usize,

@@ -1,7 +1,6 @@
 -- `board::pack` meets its contract: the numbers of an event have room in their bits. Assumes nothing.
 use mathlib.Core.Path.{◌∙◌}
 use native.Mathlib.Omega.{arith}
-use borrow.Author.Rules.{rules}
 use Rattle.board.proofs.Bits.{small_hit, small_miss, pack_hit, pack_miss, pack_refused}
 use Rattle.board.proofs.pack.Goals as goal
 

@@ -1,7 +1,7 @@
 -- `board::settle` meets its contract: beside a refusal nothing is written, else the next run's image. Assumes nothing.
-use mathlib.Core.Path.{sym, ap, ◌∙◌}
+use mathlib.Core.Path.{◌∙◌}
 use Rattle.run.specs.Stored.{image_of}
-use Rattle.board.specs.Board.{Small, packed}
+use Rattle.board.specs.Board.{Small}
 use Rattle.board.proofs.Answers.{untouched, written, write_fits, unrefused}
 use Rattle.board.proofs.settle.Goals as goal
 

@@ -1,8 +1,7 @@
 -- `files::filled` meets its contract, refused or not. Assumes nothing.
-use mathlib.Core.Path.{◌≡◌, sym, ap, ◌∙◌}
+use mathlib.Core.Path.{sym, ap, ◌∙◌}
 use Rattle.refusals.specs.Numbers.{number_in}
 use Rattle.refusals.specs.Laws.{number_is_some, number_not_some, number_of_err}
-use Rattle.frames.specs.Frames.{fill_refusal}
 use Rattle.answers.specs.Laws.{refused_wrote, accepted_wrote}
 use Rattle.files.specs.Files.{filled_texts}
 use Rattle.files.proofs.filled.Goals as goal

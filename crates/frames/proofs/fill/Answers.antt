@@ -1,9 +1,8 @@
 -- `frames::fill` meets its contract, by its tests, and by what the copy leaves of the area. Assumes nothing.
-use mathlib.Core.Path.{sym, ap, ◌∙◌}
+use mathlib.Core.Path.{sym, ◌∙◌}
 use native.Mathlib.Omega.{arith}
 use borrow.Author.Rules.{rules}
 use lib.ListN.{length, length-take, length-drop}
-use Rattle.refusals.specs.Numbers.{told}
 use Rattle.refusals.specs.Laws.{told_passed, told_refused, told_on}
 use Rattle.frames.specs.Laws.{Begun, Frame, area_passed, frame, fill_stopped, fill_bytes, fill_away, fill_done}
 use Rattle.frames.proofs.Copy.{part_put}

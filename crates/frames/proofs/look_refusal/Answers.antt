@@ -1,5 +1,5 @@
 -- `frames::look_refusal` meets its contract, by its tests. Assumes nothing.
-use mathlib.Core.Path.{sym, ◌∙◌}
+use mathlib.Core.Path.{◌∙◌}
 use borrow.Author.Rules.{rules}
 use lib.ListN.{length}
 use Rattle.refusals.specs.Laws.{told_passed, told_refused, told_on}

@@ -1,5 +1,4 @@
 -- `player::tell_answer` meets its contract, file refused or played. Assumes nothing.
-use borrow.Author.Rules.{rules}
 use mathlib.Core.Path.{sym, ap, ◌∙◌}
 use Rattle.refusals.specs.Numbers.{number_in}
 use Rattle.refusals.specs.Laws.{number_some, number_none}

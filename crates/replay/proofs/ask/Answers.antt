@@ -3,7 +3,6 @@ use mathlib.Core.Path.{sym, ap, ◌∙◌}
 use Prim.Native.Nat.{◌<◌}
 use native.Mathlib.Omega.{arith}
 use lib.ListN.{length, get_or}
-use borrow.Author.Rules.{rules}
 use Rattle.refusals.specs.Numbers.{told}
 use Rattle.refusals.specs.Laws.{told_fine}
 use Rattle.slots.specs.Laws.{keys_length}

@@ -1,5 +1,4 @@
 -- `timed::timed_checked` meets its contract: the requests of an accepted file are asked one after the other. Assumes nothing.
-use borrow.Author.Rules.{rules}
 use mathlib.Core.Path.{sym, ◌∙◌}
 use Rattle.refusals.specs.Laws.{number_is_some, number_not_some}
 use Rattle.timed.specs.Timed.{no_misses, all_misses}

@@ -1,5 +1,4 @@
 -- `timed::timed_replay` meets its contract: an accepted file's run is sound, and its requests are replayed. Assumes nothing.
-use borrow.Author.Rules.{rules}
 use mathlib.Core.Path.{sym, ◌∙◌}
 use Rattle.refusals.specs.Laws.{number_is_some, number_not_some}
 use Rattle.timed.specs.Timed.{no_misses, sound_start, all_misses}

@@ -1,6 +1,5 @@
 -- `Run::certain` meets its contract. Assumes nothing.
 use mathlib.Core.Path.{refl, sym, ap, ◌∙◌}
-use borrow.Author.Rules.{rules}
 use Rattle.refusals.specs.Numbers.{told}
 use Rattle.refusals.specs.Laws.{told_fine, given_some, number_some}
 use Rattle.run.proofs.Asking.{question_allowed, certain_refused, certain_told}

@@ -1,6 +1,5 @@
 -- `Run::in_image` meets its contract, by the test of the header. Assumes nothing.
-use mathlib.Core.Path.{◌≡◌, sym, ◌∙◌}
-use borrow.Author.Rules.{rules}
+use mathlib.Core.Path.{sym, ◌∙◌}
 use Rattle.refusals.specs.Laws.{told_ok, told_err}
 use Rattle.run.proofs.Storing.{described_blank, described_is}
 use Rattle.run.proofs.Run.in_image.Goals as goal

@@ -1,7 +1,6 @@
 -- `Run::layer` meets its contract. Assumes nothing.
 use mathlib.Core.Path.{refl, sym, ap, ◌∙◌}
 use native.Mathlib.Omega.{arith}
-use borrow.Author.Rules.{rules}
 use Rattle.refusals.specs.Numbers.{told}
 use Rattle.refusals.specs.Laws.{told_fine, given_some, number_some}
 use Rattle.run.proofs.Asking.{question_allowed, layer_refused, layer_told}

@@ -1,5 +1,5 @@
 -- `Run::parts_sound` meets its contract: each early answer breaks a part, and at the end the tables decide. Assumes nothing.
-use mathlib.Core.Path.{◌≡◌, sym, ◌∙◌}
+use mathlib.Core.Path.{sym, ◌∙◌}
 use native.Mathlib.Omega.{arith}
 use borrow.Author.Rules.{rules}
 use Rattle.refusals.specs.Laws.{told_ok, told_err}

@@ -1,5 +1,5 @@
 -- `Run::request_in` meets its contract: the reader's tests in their order, and the request's own test for soundness. Assumes nothing.
-use mathlib.Core.Path.{◌≡◌, sym, ap, ◌∙◌}
+use mathlib.Core.Path.{◌≡◌, refl, sym, ap, ◌∙◌}
 use native.Mathlib.Omega.{arith}
 use borrow.Author.Rules.{rules}
 use denote.Enum.Bare.{same_true, same_false}
@@ -15,9 +15,9 @@ use Rattle.run.proofs.Run.request_in.Goals as goal
 
 pub returns-in-Err : goal.returns-in-Err
 returns-in-Err c =
-    in_refused _ _ _ _ _ c.blank.ensures
-    (restored_refused _ _ c.refusal.ensures _ _ (sym (ap told c.in-Err.is)) c.blank.ensures)
-    c.refused.ensures
+    in_refused _ _ _ _ _ refl
+    (restored_refused _ _ c.refusal.ensures _ _ (sym (ap told c.in-Err.is)) refl)
+    c.unread.ensures
 
 pub of_image-self-requires : goal.of_image-self-requires
 of_image-self-requires c =
@@ -32,23 +32,23 @@ agree-requires c =
 
 pub returns-then-not-agree : goal.returns-then-not-agree
 returns-then-not-agree c =
-    in_refused _ _ _ _ _ c.blank-then-not-agree.ensures
+    in_refused _ _ _ _ _ refl
     (restored_unequal _ _ c.refusal.ensures (told_fine _ c.in_default.not-Err) _
     (sym (agree_in _ _ c.of_image-self.ensures) ∙ (sym c.agree.ensures ∙ c.if-not-agree.true))
-    c.blank-then-not-agree.ensures)
-    c.refused-then-not-agree.ensures
+    refl)
+    c.unread-then-not-agree.ensures
 
 pub returns-then-eq : goal.returns-then-eq
 returns-then-eq c =
     let is : c.in-Refused.refusal ≡ Unsound = same_true the_type (search rules) _ _ (sym c.eq.ensures ∙ c.if-eq.true) in
     let one = sym (ap (λ (s : Served). s.event) c.request-served.ensures.answer) ∙ (c.in-Refused.is ∙ ap Refused is) in
-    in_refused _ _ _ _ _ c.blank-then-eq.ensures
+    in_refused _ _ _ _ _ refl
     (restored_unsound _ _ c.refusal.ensures (told_fine _ c.in_default.not-Err)
     (sym (agree_in _ _ c.of_image-self.ensures) ∙ (sym c.agree.ensures ∙ c.if-not-agree.false))
     _
     (sym (sound_in _ _ c.of_image-self.ensures) ∙ one_unsound _ _ one)
-    c.blank-then-eq.ensures)
-    c.refused-then-eq.ensures
+    refl)
+    c.unread-then-eq.ensures
 
 pub returns-else-eq : goal.returns-else-eq
 returns-else-eq c =

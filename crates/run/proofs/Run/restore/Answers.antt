@@ -1,7 +1,6 @@
 -- `Run::restore` meets its contract, by its tests in their order. Assumes nothing.
 use mathlib.Core.Path.{sym, ap, ◌∙◌}
 use native.Mathlib.Omega.{arith}
-use borrow.Author.Rules.{rules}
 use Rattle.refusals.specs.Numbers.{told}
 use Rattle.refusals.specs.Laws.{told_fine}
 use Rattle.run.proofs.Storing.{with_number, restored_refused, restored_unequal, restored_unsound, restored_accepted, image_fits, run_pages, run_slots, agree_in, sound_in}

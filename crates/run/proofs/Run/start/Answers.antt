@@ -1,7 +1,6 @@
 -- `Run::start` meets its contract: its refusal first, then the run. Assumes nothing.
 use mathlib.Core.Path.{refl, sym, ap, ◌∙◌}
 use native.Mathlib.Omega.{arith}
-use borrow.Author.Rules.{rules}
 use Rattle.refusals.specs.Laws.{told_fine, given_some, number_some}
 use Rattle.refusals.specs.Numbers.{told}
 use Rattle.ranking.specs.Ranks.{fixed_ranks}

@@ -1,6 +1,5 @@
 -- `Run::start_default` meets its contract: the default list has an entry for each page. Assumes nothing.
 use mathlib.Core.Path.{refl, sym, ap, ◌∙◌}
-use borrow.Author.Rules.{rules}
 use Rattle.refusals.specs.Numbers.{told}
 use Rattle.refusals.specs.Laws.{told_fine, given_some, number_some}
 use Rattle.ranking.specs.Ranks.{fixed_ranks}

@@ -1,7 +1,6 @@
 -- `Run::store` meets its contract: what is not refused is written. Assumes nothing.
 use mathlib.Core.Path.{refl, sym, ap, ◌∙◌}
 use native.Mathlib.Omega.{arith}
-use borrow.Author.Rules.{rules}
 use Rattle.refusals.specs.Numbers.{told}
 use Rattle.refusals.specs.Laws.{told_fine, given_some, number_some}
 use Rattle.run.specs.Stored.{image_of}

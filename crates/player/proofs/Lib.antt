@@ -1,0 +1,3 @@
+-- What the proofs share. Assumes nothing.
+--     Apart   the answer of a file made of its parts
+pub mod Apart
