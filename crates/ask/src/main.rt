@@ -22,7 +22,7 @@ const OUT: usize = 600000;
 // How much is read at once.
 const PIECE: usize = 65536;
 
-// How much is kept: bytes of the line that has begun, and bytes of answers.
+// How much is kept in buffers of fixed size (nothing allocates): bytes of the line that has begun, and bytes of answers.
 #[derive(Clone, Copy)]
 struct Kept {
     held: usize,

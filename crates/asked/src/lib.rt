@@ -23,7 +23,7 @@ pub struct StartWords {
     pub listed: usize,
 }
 
-// Room for the bytes or the numbers in any word of a line. The second promise is what lending the array as a slice needs.
+// Room for the bytes or the numbers in any word of a line: of fixed size, since nothing allocates. The second promise is what lending the array as a slice needs.
 pub fn room<T: Copy>(blank: T) -> [T; 131072]
     ensures entries { result ≡ replicate 131072 blank }
     ensures size { 131072 ≡ length result }

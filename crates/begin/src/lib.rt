@@ -34,7 +34,7 @@ pub fn limits_refusal(
 fn all_below(list: &[u16], pages: usize) -> bool
     ensures { result ≡ below pages list.now }
 {
-    list.iter().all(|page| (*page as usize) < pages)
+    list.iter().all(|page| usize::from(*page) < pages)
 }
 
 // No start page stands twice.
@@ -96,7 +96,7 @@ pub fn layers_of(list: &[u16], pages: usize) -> [u8; 1024]
 {
     let mut layer: [u8; 1024] = [0; 1024];
     for (i, page) in list.iter().enumerate() {
-        layer[*page as usize] = (i + 1) as u8;
+        layer[usize::from(*page)] = (i + 1) as u8;
     }
     layer
 }

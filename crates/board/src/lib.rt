@@ -7,7 +7,8 @@ ghost use Rattle.board.specs.Board.{Small, Settles, packed, apart, image_after, 
 use run::{Run, Served};
 use serve::Event;
 
-// The four numbers of a packed answer: the refusal, 1 on a miss, the slot, the victim. Numbers, as the board's C program has them.
+// The four numbers of a packed answer: the refusal, 1 on a miss, the slot, the victim. Numbers, as the macros of c/timonedra.h
+// take them apart, which the clause `apart` says.
 #[derive(Clone, Copy)]
 pub struct Parts {
     pub refusal: u32,

@@ -1,4 +1,4 @@
-// The board's entry as C calls it: c/timonedra.h declares it. Assumes nothing.
+// The board's entry as C calls it: c/timonedra.h declares it. A crate of its own, since C's exports need one. Assumes nothing.
 #![tactic(auto)]
 
 ghost use Rattle.std.specs.Prelude.{◌≡◌};

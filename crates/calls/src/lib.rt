@@ -25,7 +25,8 @@ fn started(start: Started, out: &mut [u8], at: usize) -> usize
     answers::then_record(out, next, start.run)
 }
 
-// A start with a word for its priorities: `default`, or a list.
+// A start with a word for its priorities: `default`, or a list. Kept beside files' `trace_by`, which makes other calls: closures for
+// both are no plainer.
 fn start_by<'a>(
     pages: usize,
     slots: usize,

@@ -57,7 +57,8 @@ fn mark<'a>(marks: &'a mut [bool; 1024], held: &'a [u16; 64], pages: usize, slot
     true
 }
 
-// A page that is in a slot, or of layer 0, or has a key that does not reach the bar.
+// A page that is in a slot, or of layer 0, or has a key that does not reach the bar. A function of its own, whose clause is the test of
+// `certificate`: no plainer inline.
 fn in_time(marked: bool, layer: u8, key: Key, bar: Key) -> bool
     ensures { result ≡ (marked || layer =? 0 || key <? bar) }
 {

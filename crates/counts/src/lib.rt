@@ -55,7 +55,7 @@ pub fn fit(counts: Counts, most: u32) -> bool
     counts.best <= counts.misses
 }
 
-// The refusal of a request to a sound run, by its numbers: 8 or 9.
+// The refusal of a request to a sound run, by its numbers: 8 or 9. The limit is handed in, as in `fit`.
 pub fn refusal(pages: usize, served: u32, page: usize, most: u32) -> Result<(), Refusal>
     requires { most ≡ most_served }
     ensures { told result ≡ page_refusal pages served page }

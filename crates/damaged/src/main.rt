@@ -22,7 +22,7 @@ fn end_line(rt: &impl Print) -> io::Result<()> {
 fn sum(b: &[u8]) -> u64 {
     let mut total: u64 = 0;
     for x in b {
-        total = (total * 31 + *x as u64) % 1000000007;
+        total = (total * 31 + u64::from(*x)) % 1000000007;
     }
     total
 }
@@ -41,27 +41,31 @@ fn number_in(b: [u8; 80], at: usize) -> u32 {
     if at < 76 { words::read_u32(&b, at) } else { 0 }
 }
 
-fn image_number(rt: &impl Print, b: &[u8]) -> io::Result<()> {
-    refusal(rt, Run::blank().restore(b).event.err())
+// The two readers of files.
+#[derive(Clone, Copy)]
+enum Reader {
+    Image,
+    Trace,
 }
 
-fn trace_number(rt: &impl Print, b: &[u8]) -> io::Result<()> {
-    refusal(rt, trace::read(b).refusal)
-}
-
-// What a reader says of the first n bytes of b, as an image or as a trace.
-fn part(rt: &impl Print, b: [u8; 80], n: usize, image: bool) -> io::Result<()> {
-    prefix(rt, &b, n, image)
-}
-
-fn prefix(rt: &impl Print, b: &[u8], n: usize, image: bool) -> io::Result<()> {
-    if n <= b.len() {
-        let first = &b[..n];
-        if image {
-            image_number(rt, first)?;
-        } else {
-            trace_number(rt, first)?;
+impl Reader {
+    // What it refuses some bytes with.
+    fn refusal(self, b: &[u8]) -> Option<Refusal> {
+        match self {
+            Reader::Image => Run::blank().restore(b).event.err(),
+            Reader::Trace => trace::read(b).refusal,
         }
+    }
+}
+
+// What a reader says of the first n bytes of b.
+fn part(rt: &impl Print, b: [u8; 80], n: usize, reader: Reader) -> io::Result<()> {
+    prefix(rt, &b, n, reader)
+}
+
+fn prefix(rt: &impl Print, b: &[u8], n: usize, reader: Reader) -> io::Result<()> {
+    if n <= b.len() {
+        refusal(rt, reader.refusal(&b[..n]))?;
     }
     Ok(())
 }
@@ -72,16 +76,16 @@ fn header_by_one(
     b: [u8; 80],
     words: usize,
     n: usize,
-    image: bool,
+    reader: Reader,
 ) -> io::Result<()> {
     for i in 0..words {
         if i < 20 {
             let x = number_in(b, 4 * i);
             if 0 < x {
-                part(rt, with_number(b, 4 * i, x - 1), n, image)?;
+                part(rt, with_number(b, 4 * i, x - 1), n, reader)?;
             }
             if x < 4294967295 {
-                part(rt, with_number(b, 4 * i, x + 1), n, image)?;
+                part(rt, with_number(b, 4 * i, x + 1), n, reader)?;
             }
         }
     }
@@ -95,42 +99,54 @@ fn size_at(
     at: usize,
     most: u32,
     n: usize,
-    image: bool,
+    reader: Reader,
 ) -> io::Result<()> {
-    part(rt, with_number(b, at, 0), n, image)?;
-    part(rt, with_number(b, at, 1), n, image)?;
-    part(rt, with_number(b, at, most), n, image)?;
+    part(rt, with_number(b, at, 0), n, reader)?;
+    part(rt, with_number(b, at, 1), n, reader)?;
+    part(rt, with_number(b, at, most), n, reader)?;
     if most < 4294967295 {
-        part(rt, with_number(b, at, most + 1), n, image)?;
+        part(rt, with_number(b, at, most + 1), n, reader)?;
     }
-    part(rt, with_number(b, at, 4294967295), n, image)
+    part(rt, with_number(b, at, 4294967295), n, reader)
 }
 
 // Both sizes at their extremes, then every offset at 2^32 - 1.
-fn extremes(rt: &impl Print, b: [u8; 80], words: usize, n: usize, image: bool) -> io::Result<()> {
-    size_at(rt, b, 0, 1024, n, image)?;
-    size_at(rt, b, 4, 64, n, image)?;
+fn extremes(
+    rt: &impl Print,
+    b: [u8; 80],
+    words: usize,
+    n: usize,
+    reader: Reader,
+) -> io::Result<()> {
+    size_at(rt, b, 0, 1024, n, reader)?;
+    size_at(rt, b, 4, 64, n, reader)?;
     for i in 3..words {
         if i < 20 {
-            part(rt, with_number(b, 4 * i, 4294967295), n, image)?;
+            part(rt, with_number(b, 4 * i, 4294967295), n, reader)?;
         }
     }
     end_line(rt)
 }
 
 // Empty, under the header, one short, right, one long.
-fn lengths(rt: &impl Print, b: [u8; 80], header: usize, n: usize, image: bool) -> io::Result<()> {
-    part(rt, b, 0, image)?;
+fn lengths(
+    rt: &impl Print,
+    b: [u8; 80],
+    header: usize,
+    n: usize,
+    reader: Reader,
+) -> io::Result<()> {
+    part(rt, b, 0, reader)?;
     if 0 < header {
-        part(rt, b, header - 1, image)?;
+        part(rt, b, header - 1, reader)?;
     }
-    part(rt, b, header, image)?;
+    part(rt, b, header, reader)?;
     if 0 < n {
-        part(rt, b, n - 1, image)?;
+        part(rt, b, n - 1, reader)?;
     }
-    part(rt, b, n, image)?;
+    part(rt, b, n, reader)?;
     if n < 80 {
-        part(rt, b, n + 1, image)?;
+        part(rt, b, n + 1, reader)?;
     }
     end_line(rt)
 }
@@ -146,23 +162,23 @@ fn with_byte(b: [u8; 80], at: usize, x: u8) -> [u8; 80] {
 // Marks and slots of trace A's start: pages 0 to 5 have the marks 131, 129, 0, 130, 0, 0, slots 0 to 2 the pages 1, 3, 0.
 fn marks_and_slots(rt: &impl Print, b: [u8; 80]) -> io::Result<()> {
     // a mark with a layer above k; in layer 0; not cached; cached and in no slot
-    part(rt, with_byte(b, 36, 132), 60, true)?;
-    part(rt, with_byte(b, 36, 128), 60, true)?;
-    part(rt, with_byte(b, 36, 3), 60, true)?;
-    part(rt, with_byte(b, 38, 128), 60, true)?;
+    part(rt, with_byte(b, 36, 132), 60, Reader::Image)?;
+    part(rt, with_byte(b, 36, 128), 60, Reader::Image)?;
+    part(rt, with_byte(b, 36, 3), 60, Reader::Image)?;
+    part(rt, with_byte(b, 38, 128), 60, Reader::Image)?;
     // a slot named twice; of a page not below N; of another page; another priority
-    part(rt, with_byte(b, 44, 1), 60, true)?;
-    part(rt, with_byte(b, 44, 6), 60, true)?;
-    part(rt, with_byte(b, 42, 2), 60, true)?;
-    part(rt, with_byte(b, 48, 11), 60, true)?;
+    part(rt, with_byte(b, 44, 1), 60, Reader::Image)?;
+    part(rt, with_byte(b, 44, 6), 60, Reader::Image)?;
+    part(rt, with_byte(b, 42, 2), 60, Reader::Image)?;
+    part(rt, with_byte(b, 48, 11), 60, Reader::Image)?;
     // hits without served; best without misses; hits and misses whose sum in 32 bits would be served
-    part(rt, with_number(b, 12, 1), 60, true)?;
-    part(rt, with_number(b, 20, 1), 60, true)?;
+    part(rt, with_number(b, 12, 1), 60, Reader::Image)?;
+    part(rt, with_number(b, 20, 1), 60, Reader::Image)?;
     part(
         rt,
         with_number(with_number(b, 12, 4294967295), 16, 1),
         60,
-        true,
+        Reader::Image,
     )?;
     end_line(rt)
 }
@@ -174,9 +190,9 @@ fn images(rt: &impl Print, run: Run) -> io::Result<()> {
     refusal(rt, stored.refusal)?;
     number(rt, sum(&b))?;
     end_line(rt)?;
-    lengths(rt, b, 36, 60, true)?;
-    header_by_one(rt, b, 9, 60, true)?;
-    extremes(rt, b, 9, 60, true)?;
+    lengths(rt, b, 36, 60, Reader::Image)?;
+    header_by_one(rt, b, 9, 60, Reader::Image)?;
+    extremes(rt, b, 9, 60, Reader::Image)?;
     marks_and_slots(rt, b)
 }
 
@@ -238,14 +254,14 @@ fn traces(rt: &impl Print) -> io::Result<()> {
     let mut b = [7u8; 80];
     let w = trace::write(6, 3, &list, &priorities, &requests, &mut b);
     refusal(rt, w.refusal)?;
-    lengths(rt, b, 24, 54, false)?;
-    header_by_one(rt, b, 6, 54, false)?;
-    extremes(rt, b, 6, 54, false)?;
-    part(rt, with_number(b, 8, 30001), 54, false)?;
-    part(rt, with_number(b, 8, 4294967295), 54, false)?;
-    part(rt, with_byte(b, 24, 6), 54, false)?;
-    part(rt, with_byte(b, 24, 3), 54, false)?;
-    part(rt, with_byte(b, 25, 255), 54, false)?;
+    lengths(rt, b, 24, 54, Reader::Trace)?;
+    header_by_one(rt, b, 6, 54, Reader::Trace)?;
+    extremes(rt, b, 6, 54, Reader::Trace)?;
+    part(rt, with_number(b, 8, 30001), 54, Reader::Trace)?;
+    part(rt, with_number(b, 8, 4294967295), 54, Reader::Trace)?;
+    part(rt, with_byte(b, 24, 6), 54, Reader::Trace)?;
+    part(rt, with_byte(b, 24, 3), 54, Reader::Trace)?;
+    part(rt, with_byte(b, 25, 255), 54, Reader::Trace)?;
     end_line(rt)
 }
 

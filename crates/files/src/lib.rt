@@ -1,5 +1,6 @@
 // The questions about frames, files and images: the words of a line are read, the public call is made, and its answer written at
-// an offset; each answers the offset behind it. Assumes nothing.
+// an offset; each answers the offset behind it. That a word is read or the line is bad is a let-else at each: `?` cannot answer a number.
+// Assumes nothing.
 #![tactic(auto)]
 
 ghost use Rattle.std.specs.Prelude.{length};

@@ -35,7 +35,7 @@ fn shaken(x: u64) -> u64 {
 fn pages_from(first: u8) -> [u16; 64] {
     let mut list = [0u16; 64];
     for i in 0..64u16 {
-        list[i as usize] = i + first as u16;
+        list[usize::from(i)] = i + u16::from(first);
     }
     list
 }

@@ -116,7 +116,7 @@ fn seated_marks(held: &[u16; 64], slots: usize) -> [bool; 1024]
     let mut marks: [bool; 1024] = [false; 1024];
     for page in &held[..slots] {
         if *page < 1024 {
-            marks[*page as usize] = true;
+            marks[usize::from(*page)] = true;
         }
     }
     marks
@@ -169,9 +169,7 @@ impl<'a> Parts<'a> {
             36 + pages,
             36 + pages + 2 * slots,
         ];
-        for (i, number) in header.iter().enumerate() {
-            words::write_u32(out, 4 * i, *number);
-        }
+        words::write_numbers(out, 0, &header);
     }
 
     // Writes the mark of each page.

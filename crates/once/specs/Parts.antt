@@ -20,6 +20,7 @@ use Rattle.words.proofs.read_u16.Reads as words_read_u16
 use Rattle.words.proofs.read_u32.Reads as words_read_u32
 use Rattle.words.proofs.write_u32.Reads as words_write_u32
 use Rattle.words.proofs.write_list.Reads as words_write_list
+use Rattle.words.proofs.write_numbers.Reads as words_write_numbers
 use Rattle.words.proofs.read_list.Reads as words_read_list
 use Rattle.layers.proofs.first_sinking.Reads as layers_first_sinking
 use Rattle.layers.proofs.sink.Reads as layers_sink
@@ -152,6 +153,9 @@ words_write_u32_once κ a x y s t p q = p ∙ sym q
 
 pub words_write_list_once : Left words_write_list.Post (λ κ s. s.0.now)
 words_write_list_once κ a x y s t p q = p ∙ sym q
+
+pub words_write_numbers_once : Left words_write_numbers.Post (λ κ s. s.0.now)
+words_write_numbers_once κ a x y s t p q = p ∙ sym q
 
 -- into an array of any length
 pub words_read_list_once : (N : _) (fits : _) → Once (words_read_list.Post N fits)

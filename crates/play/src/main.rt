@@ -15,6 +15,7 @@ fn main(rt: HostRuntime) -> io::Result<()> {
     print(&rt, &out, length)
 }
 
+// A buffer of fixed size, since nothing allocates.
 fn file_buffer() -> [u8; 65536]
     ensures { 65536 ≡ length result }
 {

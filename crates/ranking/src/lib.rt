@@ -1,4 +1,5 @@
-// The ranking of the pages: the default priorities, and one number for each page that orders the pages as the ranking does.
+// The ranking of the pages: the default priorities, and one number for each page that orders the pages as the ranking does. Tables are
+// of fixed size, as in the crates `layers` and `slots`.
 // Assumes nothing.
 #![tactic(auto)]
 

@@ -117,10 +117,6 @@ pub given_some : (r : Refusal) (n : ℕ) → number r ≡ n → Some r ≡ given
 given_some r zero e = absurd (number_some r e)
 given_some r (suc n) e = ap Some (sym (named_number r) ∙ ap named e)
 
-pub given_none : (n : ℕ) → n ≡ 0 → ◌≡◌ {A = Option Refusal} None (given n)
-given_none zero e = refl
-given_none (suc n) e = absurd (omega arith)
-
 pub none_given : (n : ℕ) → given n ≡ None → n ≡ 0
 none_given zero e = refl
 none_given (suc n) e = let o : ◌≡◌ {A = ℕ} (number (named (suc n))) 0 = ap number_in e in absurd (number_some (named (suc n)) o)

@@ -1,5 +1,5 @@
 // A replay: requests of a sound run, one after the other, over arrays that are changed in place, and told as they come. No turn tests
-// soundness or copies the run. Assumes nothing.
+// soundness or copies the run. Tables are of fixed size, as in the crates `layers` and `slots`. Assumes nothing.
 #![tactic(auto)]
 
 ghost use Rattle.std.specs.Prelude.{◌≡◌, ℕ, ◌+◌, ◌≤◌, ◌<◌, length, slice_index_or};
@@ -26,8 +26,8 @@ pub struct Played {
     pub counts: Counts,
 }
 
-// By slots, the key of the page in each, and that the priorities are as narrow as keys ask: one loop, and not one over all pages and
-// one over the slots.
+// By slots, the key of the page in each, and that the priorities are as narrow as keys ask. Kept beside `slots::by_slot`: it makes k
+// keys, where that one reads from a table of all.
 fn seat_keys<'a>(priority: &'a [u16; 1024], held: &'a [u16; 64], slots: usize) -> [Key; 64]
     requires { (slots ≤ 64) × ((s : ℕ) → s < slots → slice_index_or held.now s no_page < 1024) }
     ensures table { result ≡ keys_of (key_at (page_keys priority.now)) held.now slots }

@@ -1,5 +1,5 @@
 // A run: what the board keeps, and every call on it that is not a file or a frame. What each call means is said in specs/.
-// Assumes nothing.
+// Tables are of fixed size, as in the crates `layers` and `slots`. Assumes nothing.
 #![tactic(auto)]
 
 ghost use Rattle.std.specs.Prelude.{◌≡◌, ℕ, ◌≤◌, ◌<◌, length, slice_index_or};
@@ -72,7 +72,8 @@ pub struct SelectionAnswer {
     pub refusal: Option<Refusal>,
 }
 
-// What the image reader comes to: its run, and whether it accepts the image.
+// What the image reader comes to: its run, and whether it accepts the image. Kept beside each other, since document 01 has a reader
+// hand back its run with the event, the blank run beside a refusal; the clause `restored` says it.
 #[derive(Clone, Copy)]
 pub struct Restored {
     pub run: Run,

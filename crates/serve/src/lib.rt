@@ -1,5 +1,5 @@
 // One request of a sound run, over its arrays, which are lent and changed in place: O(N + k) and no soundness test inside. A
-// replay keeps the arrays and, by slots, the layers and keys of the pages in them. Assumes nothing.
+// replay keeps the arrays and, by slots, the layers and keys of the pages in them; tables of fixed size, as in the crate `slots`. Assumes nothing.
 #![tactic(auto)]
 
 ghost use Rattle.std.specs.Prelude.{◌≡◌, false, ℕ, ◌<◌, ◌≤◌, length, set};

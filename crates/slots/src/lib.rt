@@ -13,7 +13,7 @@ use ranking::Key;
 // How many layers `reach` counts afresh.
 const AFRESH: u8 = 4;
 
-// How many slots of 64 there are from a slot on, `rest`, where it holds the page; else 0.
+// How many slots of 64 there are from a slot on, `rest`, where it holds the page; else 0. A function of its own, as `pick` is.
 fn left_if(entry: u16, page: u16, rest: u8) -> u8
     ensures { result ≡ (if entry =? page then rest else 0) }
 {
@@ -145,7 +145,8 @@ pub fn reach(near: &[u8; 64], slots: u8, from: u8) -> Option<usize>
     Some(usize::from(full))
 }
 
-// The key of a page of a layer up to j; of any other the number that no key reaches.
+// The key of a page of a layer up to j; of any other the number that no key reaches. A function of its own, whose clause is the choice
+// that `least_key` speaks of: no plainer inline.
 fn pick(near: u8, j: u8, key: Key) -> Key
     ensures { result ≡ (if near ≤? j then key else no_key) }
 {

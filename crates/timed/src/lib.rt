@@ -1,4 +1,4 @@
-// What a benchmark times, exported for C and Rust: whole traces, by sound steps, by the checked request, and as text.
+// What a benchmark times, exported for C and Rust: whole traces, by sound steps, by the checked request, and as text; an export for each.
 // Assumes nothing.
 #![tactic(auto)]
 

@@ -1,4 +1,4 @@
-// What a benchmark times, as C and Rust call it. Assumes nothing.
+// What a benchmark times, as C and Rust call it. A crate of its own, since C's exports need one. Assumes nothing.
 #![tactic(auto)]
 
 ghost use Rattle.std.specs.Prelude.{◌≡◌};

@@ -143,9 +143,7 @@ fn write_header(out: &mut [u8], pages: u32, slots: u32, requests: u32)
         24 + 2 * slots,
         24 + 2 * slots + 2 * pages,
     ];
-    for (i, number) in header.iter().enumerate() {
-        words::write_u32(out, 4 * i, *number);
-    }
+    words::write_numbers(out, 0, &header);
 }
 
 // The header and the three lists.

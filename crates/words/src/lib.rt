@@ -43,6 +43,16 @@ pub fn write_list(s: &mut [u8], at: usize, list: &[u16])
     }
 }
 
+// A list of 32-bit numbers, as a header has them.
+pub fn write_numbers(s: &mut [u8], at: usize, list: &[u32])
+    requires { at + 4 * length list.now ≤ length s.old }
+    ensures { s.new ≡ put s.old at (words 4 list.now) }
+{
+    for (i, v) in list.iter().enumerate() {
+        write_u32(s, at + 4 * i, *v);
+    }
+}
+
 // A list of 16-bit numbers at the start of an array, and `rest` in each entry after it.
 pub fn read_list<const N: usize>(s: &[u8], at: usize, count: usize, rest: u16) -> [u16; N]
     requires { (count ≤ N) × (at + 2 * count ≤ length s.now) }

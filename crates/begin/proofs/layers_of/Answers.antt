@@ -7,13 +7,13 @@ use Rattle.begin.proofs.layers_of.Goals as goal
 pub loop-i-init : goal.loop-i-init
 loop-i-init c = placed_none c.args.list.now
 
-pub bounds-layer-page : goal.bounds-layer-page
-bounds-layer-page c =
-    omega (arith, below_true _ _ c.requires.2 c.loop-i.i (omega arith))
+pub bounds-layer-from : goal.bounds-layer-from
+bounds-layer-from c =
+    omega (arith, c.from.ensures, below_true _ _ c.requires.2 c.loop-i.i (omega arith))
 
 pub loop-i-preserved : goal.loop-i-preserved
 loop-i-preserved c =
-    placed_more _ _ _ c.requires.0 c.requires.2 _ c.requires.3 (omega arith) c.loop-i.invariant
+    rw c.from.ensures (placed_more _ _ _ c.requires.0 c.requires.2 _ c.requires.3 (omega arith) c.loop-i.invariant)
 
 pub returns : goal.returns
 returns c =

@@ -18,7 +18,7 @@ loop-page-preserved c =
     let page : get_or (take c.args.slots c.args.held.now) c.loop-page.page-index 0 ≡ get_or c.args.held.now c.loop-page.page-index 0 =
     get_or-take c.args.slots c.args.held.now c.loop-page.page-index 0 (omega arith) in
     elim c.if-page-lt1024.branch [
-      | then-page-lt1024 w ↦ rw (w.marks-is, page) (marked_more _ _ _ inside c.loop-page.invariant (omega arith))
+      | then-page-lt1024 w ↦ rw (w.marks-is, w.from.ensures, page) (marked_more _ _ _ inside c.loop-page.invariant (omega arith))
       | else-page-lt1024 w ↦ rw w.marks-is (marked_past _ _ _ inside c.loop-page.invariant (omega arith))
     ]
 
