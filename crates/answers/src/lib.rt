@@ -16,11 +16,18 @@ pub fn bad(out: &mut [u8], at: usize) -> usize
     fields::write_word(out, at, b"bad line")
 }
 
-// The number of a refusal, 0 for none.
-pub fn refusal(out: &mut [u8], at: usize, refusal: Option<Refusal>) -> usize
-    ensures { Wrote out.old at (refusal_texts (number_in refusal)) result out.new }
+// A refusal alone, by its number: any number, so that a caller needs no case for it.
+pub fn refusal(out: &mut [u8], at: usize, number: u8) -> usize
+    ensures { Wrote out.old at (refusal_texts number) result out.new }
 {
-    fields::write_number(out, at, u64::from(refusals::number_in(refusal)))
+    fields::write_number(out, at, u64::from(number))
+}
+
+// The first word of an answer: the number of a refusal, 0 for none.
+pub fn first_word(out: &mut [u8], at: usize, refused: Option<Refusal>) -> usize
+    ensures { Wrote out.old at (refusal_texts (number_in refused)) result out.new }
+{
+    refusal(out, at, refusals::number_in(refused))
 }
 
 // A space and a number.
@@ -66,6 +73,6 @@ pub fn event(out: &mut [u8], at: usize, event: Event, best: u32) -> usize
             let third = then_number(out, second, victim as u64);
             then_number(out, third, u64::from(best))
         }
-        Event::Refused(refused) => refusal(out, at, Some(refused)),
+        Event::Refused(refused) => refusal(out, at, refused.number()),
     }
 }

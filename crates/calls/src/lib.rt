@@ -18,7 +18,7 @@ use serve::Event;
 fn started(start: Started, out: &mut [u8], at: usize) -> usize
     ensures { Wrote out.old at (started_texts start) result out.new }
 {
-    let next = answers::refusal(out, at, start.refusal);
+    let next = answers::first_word(out, at, start.refusal);
     if start.refusal.is_some() {
         return next;
     }
@@ -102,7 +102,7 @@ pub fn trial(line: &[u8], out: &mut [u8], at: usize) -> usize
 fn number_unless(refusal: Option<Refusal>, n: u64, out: &mut [u8], at: usize) -> usize
     ensures { Wrote out.old at (unless_refused (number_in refusal) (number_texts n)) result out.new }
 {
-    let next = answers::refusal(out, at, refusal);
+    let next = answers::first_word(out, at, refusal);
     if refusal.is_some() {
         return next;
     }
@@ -156,7 +156,7 @@ pub fn selection(line: &[u8], out: &mut [u8], at: usize) -> usize
     };
     let answer = run.selection();
     if answer.refusal.is_some() {
-        return answers::refusal(out, at, answer.refusal);
+        return answers::first_word(out, at, answer.refusal);
     }
     let mut list: [u16; 1024] = [0; 1024];
     let n = gather(&answer.pages, &mut list);

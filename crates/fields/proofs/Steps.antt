@@ -6,14 +6,15 @@ use Prim.Native.Nat.{ℕ, zero, suc, ◌+◌, ◌-◌, ◌*◌, ◌≤◌, ◌<�
 use native.Mathlib.Numerals.{add-one}
 use native.Mathlib.Omega.{arith}
 use borrow.Author.Tests.{ltb-false, leb-true, eqb-true, le-leb, lt-leb, eq-eqb, ne_eqb}
+use mir.Val.{bool_byte}
 use lib.ListN.{length, get_or, take, drop, drop_of_length-le}
 use lib.Seq.{drop-cons, drop-drop}
 use borrow.Rule.Slice.PartMut.{put_mid}
-use Rattle.std.specs.Prelude.{Option, Some, None, count_by, cond, nat_lt, position, unwrap_or}
+use Rattle.std.specs.Prelude.{Option, Some, None, cond, nat_lt, position, unwrap_or}
 use Rattle.std.specs.List.{position_or_len}
 use Rattle.std.proofs.lemmas.List.Sums.{prefix_len-le-length}
 use Rattle.std.proofs.lemmas.Option.{none-some}
-use Rattle.std.proofs.lemmas.List.Recursion.{is_count_by, is_position_or_len}
+use Rattle.std.proofs.lemmas.List.Recursion.{is_position_or_len}
 use Rattle.paging.specs.Sets.{◌≤?◌, ◌=?◌, bit}
 use Rattle.paging.specs.Tests.{clash, and_left, and_right}
 use Rattle.words.specs.Words.{put}
@@ -54,17 +55,19 @@ module _ (x : ℕ) where
   unfolding before
   before_end w i l = rw (drop_of_length-le w {i = i} l)
 
-  one_more : (c : ℕ) (cs : List ℕ) → separators x (c ∷ cs) ≡ cond (c =? x) (1 + separators x cs) (separators x cs)
+  -- what is left holds the separators that the next place and all behind it hold; at the end there are none
+  pub separators_next : (w : List ℕ) (i : ℕ) → i < length w → separators x (drop i w) ≡ bit (get_or w i 0 =? x) + separators x (drop (i + 1) w)
   unfolding separators
-  one_more c cs = go (c =? x) refl
-    where
-      go : (t : Bool) → c =? x ≡ t → bit (c =? x) + separators x cs ≡ cond (c =? x) (1 + separators x cs) (separators x cs)
-      go true e = rw e
-      go false e = rw e (omega arith)
+  separators_next w i l = rw (add-one i, drop-cons w i 0 l)
 
-  pub separators_is : (w : List ℕ) → separators x w ≡ count_by (λ c. c =? x) w
+  pub separators_end : (w : List ℕ) (i : ℕ) → length w ≤ i → separators x (drop i w) ≡ 0
   unfolding separators
-  separators_is = is_count_by (separators x) (λ c. c =? x) refl one_more
+  separators_end w i l = rw (drop_of_length-le w {i = i} l)
+
+-- a truth value as a number, as the library makes it
+pub byte_bit : (b : Bool) → bool_byte b ≡ bit b
+byte_bit true = refl
+byte_bit false = refl
 
 -- ---- the loop that passes over words
 

@@ -26,7 +26,7 @@ fn filled<'a>(
     ensures { Wrote out.old at (filled_texts run page area.old bytes.now) result out.new }
 {
     let refusal = frames::fill(run, page, area, bytes).err();
-    let next = answers::refusal(out, at, refusal);
+    let next = answers::first_word(out, at, refusal);
     if refusal.is_some() {
         return next;
     }
@@ -63,7 +63,7 @@ fn looked(run: Run, page: usize, area: &[u8], out: &mut [u8], at: usize) -> usiz
     ensures { Wrote out.old at (looked_texts run page area.now) result out.new }
 {
     let refusal = frames::look_refusal(run, page, area).err();
-    let next = answers::refusal(out, at, refusal);
+    let next = answers::first_word(out, at, refusal);
     answers::then_bytes(out, next, frames::look(run, page, area))
 }
 
@@ -85,7 +85,7 @@ pub fn look(line: &[u8], out: &mut [u8], at: usize) -> usize
 fn trace_read(traced: Traced, out: &mut [u8], at: usize) -> usize
     ensures { Wrote out.old at (traced_texts traced) result out.new }
 {
-    let first = answers::refusal(out, at, traced.refusal);
+    let first = answers::first_word(out, at, traced.refusal);
     if traced.refusal.is_some() {
         return first;
     }
@@ -115,7 +115,7 @@ fn written(
 ) -> usize
     ensures { Wrote out.old at (written_texts (number_in refusal) length buffer.now) result out.new }
 {
-    let first = answers::refusal(out, at, refusal);
+    let first = answers::first_word(out, at, refusal);
     if refusal.is_some() {
         return first;
     }
@@ -205,10 +205,10 @@ fn image_read(restored: Restored, out: &mut [u8], at: usize) -> usize
 {
     match restored.event {
         Ok(()) => {
-            let next = answers::refusal(out, at, None);
+            let next = answers::first_word(out, at, None);
             answers::then_record(out, next, restored.run)
         }
-        Err(refusal) => answers::refusal(out, at, Some(refusal)),
+        Err(refusal) => answers::refusal(out, at, refusal.number()),
     }
 }
 

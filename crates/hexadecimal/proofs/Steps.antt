@@ -8,7 +8,7 @@ use native.Mathlib.Omega.{arith}
 use borrow.Author.Tests.{leb-true, le-leb, lt-leb, lt-ltb, le-ltb}
 use lib.ListN.{length, get_or, set, take}
 use lib.Seq.{length-take-le, sets-eq, take_all, take-suc}
-use Rattle.std.specs.Prelude.{Option, Some, None, IsSome, is_some, unwrap_or}
+use Rattle.std.specs.Prelude.{Option, Some, None, is_some, unwrap_or}
 use Rattle.std.specs.List.{list_all}
 use Rattle.std.specs.Simd.{first_chunks}
 use Rattle.paging.specs.Sets.{◌≤?◌}
@@ -77,11 +77,8 @@ module _ (c : ℕ) (l : value_of c ≤ 15) where
   unfolding digit_value
   digit_got = rw (le-leb _ _ l)
 
-  pub digit_some : IsSome (digit_value c)
-  digit_some = rw digit_got
-
-  pub digit_is : {o : Option ℕ} {v : ℕ} → o ≡ digit_value c → o ≡ Some v → v ≡ value_of c
-  digit_is e f = ap (λ o. unwrap_or o 0) (sym f ∙ e ∙ digit_got)
+  pub digit_is : {o : Option ℕ} {v : ℕ} → o ≡ digit_value c → v ≡ unwrap_or o 0 → v ≡ value_of c
+  digit_is e f = f ∙ rw (e, digit_got)
 
 pub byte_is : (c d : ℕ) {u v : ℕ} → value_of c ≤ 15 → value_of d ≤ 15 → u ≡ value_of c → v ≡ value_of d → 16 * u + v ≡ byte_of c d
 unfolding byte_of

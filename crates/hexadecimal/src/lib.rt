@@ -34,12 +34,12 @@ fn are_digits(word: &[u8]) -> bool
     word.iter().all(|c| value(*c).is_some())
 }
 
-// The byte of two digits.
+// The byte of two digits. `unwrap_or`, though neither is ever none: a loop without a way to fail is made into vectors.
 fn byte(high: u8, low: u8) -> u8
     requires { (value_of high ≤ 15) × (value_of low ≤ 15) }
     ensures { result ≡ byte_of high low }
 {
-    16 * value(high).unwrap() + value(low).unwrap()
+    16 * value(high).unwrap_or(0) + value(low).unwrap_or(0)
 }
 
 // Writes the bytes of a word of digits to the start of a buffer.

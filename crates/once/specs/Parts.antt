@@ -95,6 +95,7 @@ use Rattle.asked.proofs.read_paged.Reads as asked_read_paged
 use Rattle.asked.proofs.read_start.Reads as asked_read_start
 use Rattle.answers.proofs.bad.Reads as answers_bad
 use Rattle.answers.proofs.refusal.Reads as answers_refusal
+use Rattle.answers.proofs.first_word.Reads as answers_first_word
 use Rattle.answers.proofs.then_number.Reads as answers_then_number
 use Rattle.answers.proofs.then_bytes.Reads as answers_then_bytes
 use Rattle.answers.proofs.then_record.Reads as answers_then_record
@@ -463,6 +464,9 @@ answers_bad_once κ a x y s t p q = wrote_once p q
 
 pub answers_refusal_once : OnceLeft answers_refusal.Post (λ κ s. s.0.now)
 answers_refusal_once κ a x y s t p q = wrote_once p q
+
+pub answers_first_word_once : OnceLeft answers_first_word.Post (λ κ s. s.0.now)
+answers_first_word_once κ a x y s t p q = wrote_once p q
 
 pub answers_then_number_once : OnceLeft answers_then_number.Post (λ κ s. s.0.now)
 answers_then_number_once κ a x y s t p q = wrote_once p q

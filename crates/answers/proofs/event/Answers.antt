@@ -19,4 +19,4 @@ returns-in-Miss c =
 
 pub returns-in-Refused : goal.returns-in-Refused
 unfolding event_texts
-returns-in-Refused c = rw c.in-Refused.is c.refusal.ensures
+returns-in-Refused c = rw c.in-Refused.is (rw c.number.ensures at c.refusal.ensures)

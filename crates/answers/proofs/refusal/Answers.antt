@@ -4,4 +4,4 @@ use Rattle.answers.proofs.refusal.Goals as goal
 
 pub returns : goal.returns
 unfolding refusal_texts
-returns c = rw (c.from.ensures, c.number_in.ensures) at c.write_number.ensures
+returns c = rw c.from.ensures at c.write_number.ensures

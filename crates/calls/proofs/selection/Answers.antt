@@ -17,7 +17,7 @@ pub returns-then-is_some : goal.returns-then-is_some
 unfolding selection_answer
 returns-then-is_some c =
     run_known c.word.ensures _ c.read_run.ensures c.in-Some.is
-    (rw c.selection-answer.ensures at (selection_refused c.selection-answer.result (number_is_some _ (sym c.is_some.ensures ∙ c.if-is_some.true)) c.refusal.ensures))
+    (rw c.selection-answer.ensures at (selection_refused c.selection-answer.result (number_is_some _ (sym c.is_some.ensures ∙ c.if-is_some.true)) c.first_word.ensures))
 
 pub returns : goal.returns
 unfolding selection_answer

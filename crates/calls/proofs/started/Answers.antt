@@ -7,8 +7,8 @@ use Rattle.calls.proofs.started.Goals as goal
 
 pub returns-then-is_some : goal.returns-then-is_some
 unfolding started_texts
-returns-then-is_some c = refused_wrote c.refusal-next.ensures _ (number_is_some _ (sym c.is_some.ensures ∙ c.if-is_some.true))
+returns-then-is_some c = refused_wrote c.first_word-next.ensures _ (number_is_some _ (sym c.is_some.ensures ∙ c.if-is_some.true))
 
 pub returns : goal.returns
 unfolding started_texts
-returns c = accepted_wrote c.refusal-next.ensures (number_not_some _ (sym c.is_some.ensures ∙ c.if-is_some.false)) c.then_record.ensures
+returns c = accepted_wrote c.first_word-next.ensures (number_not_some _ (sym c.is_some.ensures ∙ c.if-is_some.false)) c.then_record.ensures

@@ -10,10 +10,10 @@ pub returns-then-is_some : goal.returns-then-is_some
 unfolding filled_texts
 returns-then-is_some c =
     let is = ap number_in c.err-refusal.ensures.value ∙ (number_of_err _ ∙ c.fill.ensures.number) in
-    rw (← is) (refused_wrote c.refusal-next.ensures _ (number_is_some _ (sym c.is_some.ensures ∙ c.if-is_some.true)))
+    rw (← is) (refused_wrote c.first_word-next.ensures _ (number_is_some _ (sym c.is_some.ensures ∙ c.if-is_some.true)))
 
 pub returns : goal.returns
 unfolding filled_texts
 returns c =
     let is = ap number_in c.err-refusal.ensures.value ∙ (number_of_err _ ∙ c.fill.ensures.number) in
-    rw (← is, ← c.fill.ensures.frames) (accepted_wrote c.refusal-next.ensures (number_not_some _ (sym c.is_some.ensures ∙ c.if-is_some.false)) c.then_bytes.ensures)
+    rw (← is, ← c.fill.ensures.frames) (accepted_wrote c.first_word-next.ensures (number_not_some _ (sym c.is_some.ensures ∙ c.if-is_some.false)) c.then_bytes.ensures)

@@ -5,8 +5,8 @@ use Rattle.files.proofs.image_read.Goals as goal
 
 pub returns-in-Ok : goal.returns-in-Ok
 unfolding restored_texts reading_texts
-returns-in-Ok c = rw c.in-Ok.is (wrote_then c.refusal-next.ensures c.then_record.ensures)
+returns-in-Ok c = rw c.in-Ok.is (wrote_then c.first_word-next.ensures c.then_record.ensures)
 
 pub returns-in-Err : goal.returns-in-Err
 unfolding restored_texts reading_texts
-returns-in-Err c = rw c.in-Err.is c.refusal.ensures
+returns-in-Err c = rw c.in-Err.is (rw c.number.ensures at c.refusal.ensures)

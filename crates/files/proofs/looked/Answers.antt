@@ -11,5 +11,5 @@ unfolding looked_texts
 returns c =
     let is = ap number_in c.err-refusal.ensures.value ∙ (number_of_err _ ∙ c.look_refusal.ensures) in
     wrote_then
-    (rw is at c.refusal-next.ensures)
+    (rw is at c.first_word-next.ensures)
     (rw c.look.ensures at c.then_bytes.ensures)

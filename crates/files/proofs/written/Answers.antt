@@ -8,10 +8,10 @@ use Rattle.files.proofs.written.Goals as goal
 
 pub returns-then-is_some : goal.returns-then-is_some
 unfolding written_texts
-returns-then-is_some c = refused_wrote c.refusal-first.ensures _ (number_is_some _ (sym c.is_some.ensures ∙ c.if-is_some.true))
+returns-then-is_some c = refused_wrote c.first_word-first.ensures _ (number_is_some _ (sym c.is_some.ensures ∙ c.if-is_some.true))
 
 pub returns : goal.returns
 unfolding written_texts
 returns c =
-    accepted_wrote c.refusal-first.ensures (number_not_some _ (sym c.is_some.ensures ∙ c.if-is_some.false))
+    accepted_wrote c.first_word-first.ensures (number_not_some _ (sym c.is_some.ensures ∙ c.if-is_some.false))
     (wrote_then c.then_number-second.ensures c.then_bytes.ensures)

@@ -1,21 +1,15 @@
 -- `hexadecimal::byte` meets its contract: of two digits, there is no more than a byte has room for. Assumes nothing.
 use native.Mathlib.Omega.{arith}
-use Rattle.hexadecimal.proofs.Steps.{digit_some, digit_is, byte_is}
+use Rattle.hexadecimal.proofs.Steps.{digit_is, byte_is}
 use Rattle.hexadecimal.proofs.byte.Goals as goal
 
-pub unwrap-requires : goal.unwrap-requires
-unwrap-requires c = rw c.value.ensures (digit_some _ c.requires.0)
-
-pub unwrap-requires-2 : goal.unwrap-requires-2
-unwrap-requires-2 c = rw c.value-2.ensures (digit_some _ c.requires.1)
-
 pub overflow_mul-result : goal.overflow_mul-result
-overflow_mul-result c = omega (arith, digit_is _ c.requires.0 c.value.ensures c.unwrap.ensures)
+overflow_mul-result c = omega (arith, digit_is _ c.requires.0 c.value.ensures c.unwrap_or.ensures)
 
 pub overflow_add-result : goal.overflow_add-result
 overflow_add-result c =
-    omega (arith, digit_is _ c.requires.0 c.value.ensures c.unwrap.ensures, digit_is _ c.requires.1 c.value-2.ensures c.unwrap-2.ensures)
+    omega (arith, digit_is _ c.requires.0 c.value.ensures c.unwrap_or.ensures, digit_is _ c.requires.1 c.value-2.ensures c.unwrap_or-2.ensures)
 
 pub returns : goal.returns
 returns c =
-    byte_is _ _ c.requires.0 c.requires.1 (digit_is _ c.requires.0 c.value.ensures c.unwrap.ensures) (digit_is _ c.requires.1 c.value-2.ensures c.unwrap-2.ensures)
+    byte_is _ _ c.requires.0 c.requires.1 (digit_is _ c.requires.0 c.value.ensures c.unwrap_or.ensures) (digit_is _ c.requires.1 c.value-2.ensures c.unwrap_or-2.ensures)
