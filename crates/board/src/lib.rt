@@ -53,7 +53,7 @@ fn settle(image: &mut [u8], served: Served) -> u32
     if let Event::Refused(_) = event {
         return pack(event);
     }
-    served.run.write(image);
+    served.run.parts().write(image);
     pack(event)
 }
 

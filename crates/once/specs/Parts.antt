@@ -57,7 +57,7 @@ use Rattle.counts.proofs.refusal.Reads as counts_refusal
 use Rattle.counts.proofs.fit.Reads as counts_fit
 use Rattle.counts.proofs.none.Reads as counts_none
 use Rattle.run.proofs.Run.in_image.Reads as run_in_image
-use Rattle.run.proofs.Run.write.Reads as run_write
+use Rattle.run.proofs.Run.parts.Reads as run_parts
 use Rattle.replay.proofs.play.Reads as replay_play
 use Rattle.replay.proofs.misses.Reads as replay_misses
 use Rattle.text.proofs.write_number.Reads as text_write_number
@@ -316,8 +316,31 @@ counts_counted_once κ a x y s t p q = p ∙ sym q
 
 -- ---- a run
 
-pub run_write_once : Left run_write.Post (λ κ s. s.1.0.now)
-run_write_once κ a x y s t p q = p ∙ sym q
+-- Of the references to the tables, what is seen through them.
+pub run_parts_once :
+    (κ : _) (a : _) (x y : _) (s t : _) →
+    run_parts.Post κ a x s →
+    run_parts.Post κ a y t →
+    (x.pages ≡ y.pages)
+    × (x.slots ≡ y.slots)
+    × (x.served ≡ y.served)
+    × (x.hits ≡ y.hits)
+    × (x.misses ≡ y.misses)
+    × (x.best ≡ y.best)
+    × (x.layer.now ≡ y.layer.now)
+    × (x.priority.now ≡ y.priority.now)
+    × (x.held.now ≡ y.held.now)
+run_parts_once κ a x y s t p q = (
+  p.0.0 ∙ sym q.0.0,
+  p.0.1 ∙ sym q.0.1,
+  p.1.0.0 ∙ sym q.1.0.0,
+  p.1.0.1 ∙ sym q.1.0.1,
+  p.1.0.2 ∙ sym q.1.0.2,
+  p.1.0.3 ∙ sym q.1.0.3,
+  p.1.1.0 ∙ sym q.1.1.0,
+  p.1.1.1 ∙ sym q.1.1.1,
+  p.1.1.2 ∙ sym q.1.1.2,
+)
 
 pub run_in_image_once : Once run_in_image.Post
 run_in_image_once κ a x y s t p q = p ∙ sym q

@@ -1,6 +1,6 @@
 -- The image reader and writer as the code takes them. Assumes nothing.
 use Rattle.serve.specs.declared.Event.TheVariants.{Refused as Declined}
-use Rattle.std.specs.Prelude.{Bool, true, false, ◌&&◌, List, ◌≡◌, ◌⊎◌, ℕ, ◌+◌, ◌*◌, ◌≤◌, ◌<◌, length, nat_le, None, Ok, Err}
+use Rattle.std.specs.Prelude.{Bool, true, false, ◌&&◌, List, ◌≡◌, ◌⊎◌, ℕ, ◌+◌, ◌*◌, ◌≤◌, ◌<◌, length, slice_index_or, nat_le, None, Ok, Err}
 use Rattle.std.proofs.Math.Path.{refl, sym, ap, subst}
 use Rattle.std.proofs.Common.{◌∙◌, inl, inr, ⊎_elim, arith}
 use borrow.Author.Tests.{ne_eqb, eq-eqb, le-leb, lt-leb, leb-true}
@@ -20,7 +20,7 @@ use Rattle.paging.specs.Sets.{◌=?◌, unless◌give◌else◌}
 use Rattle.paging.specs.Tests.{truth, is, clash, le_or_lt}
 use Rattle.words.specs.Words.{word_at, put}
 use Rattle.image.specs.Layout.{image_length, pages_in, slots_in, image_refusal, image_layers, image_slots}
-use Rattle.image.specs.Layout.{image_priorities, marks_agree}
+use Rattle.image.specs.Layout.{image_priorities, marks_agree, image_bytes}
 use Rattle.image.proofs.Laws.{refusal_read, refusal_small}
 use Rattle.run.specs.Numbers.{layer, blank_run}
 use Rattle.counts.specs.Counts.{most_served}
@@ -248,6 +248,28 @@ store_fits r out h = go (truth (sound r)) (truth (nat_le (image_length r.pages r
           (w.pages.1, w.slots.1, leb-true (image_length r.pages r.slots) (length out) c),
           λ q l. omega (arith, w.layers q l, w.slots.1),
         )
+
+-- The writer is given a run's parts: it asks of them what it asks of the run, and what it writes of them is the run's image.
+module _
+    (r : Run)
+    {N k : ℕ}
+    {layers priorities slots : List ℕ}
+    (sizes : (N ≡ r.pages) × (k ≡ r.slots))
+    (tables : (layers ≡ r.layer) × (priorities ≡ r.ranks.priority) × (slots ≡ r.held))
+  where
+    pub parts_fit :
+        {n : ℕ} →
+        ((r.pages ≤ 1024) × (r.slots ≤ 64) × (image_length r.pages r.slots ≤ n)) × ((q : ℕ) → q < r.pages → layer r q ≤ 127) →
+        ((N ≤ 1024) × (k ≤ 64) × (image_length N k ≤ n)) × ((q : ℕ) → q < N → slice_index_or layers q 0 ≤ 127)
+    parts_fit f = rw (sizes.0, sizes.1, tables.0) f
+
+    pub parts_image :
+        {served hits misses best : ℕ} →
+        (served ≡ r.counts.served) × (hits ≡ r.counts.hits) × (misses ≡ r.counts.misses) × (best ≡ r.counts.best) →
+        image_bytes N k served hits misses best layers priorities slots ≡ image_of r
+    unfolding image_of
+    parts_image numbers =
+        rw (sizes.0, sizes.1, numbers.0, numbers.1, numbers.2, numbers.3, tables.0, tables.1, tables.2)
 
 -- the length of an image
 pub length_is : (N k : ℕ) → 36 + 3 * N + 2 * k ≡ image_length N k

@@ -2,15 +2,14 @@
 // Tables are of fixed size, as in the crates `layers` and `slots`. Assumes nothing.
 #![tactic(auto)]
 
-ghost use Rattle.std.specs.Prelude.{◌≡◌, ℕ, ◌≤◌, ◌<◌, length, slice_index_or};
-ghost use Rattle.words.specs.Words.{put};
+ghost use Rattle.std.specs.Prelude.{◌≡◌, ◌<◌, length};
 ghost use Rattle.ranking.specs.Key.{Narrow, page_keys};
 ghost use Rattle.ranking.specs.Ranks.{fixed_ranks};
 ghost use Rattle.refusals.specs.Numbers.{told};
 ghost use Rattle.begin.specs.Refusals.{list_refusal};
 ghost use Rattle.counts.specs.Counts.{most_served};
 ghost use Rattle.serve.specs.Event.{values};
-ghost use Rattle.image.specs.Layout.{image_length, image_refusal};
+ghost use Rattle.image.specs.Layout.{image_refusal};
 ghost use Rattle.run.specs.Numbers.{blank_run};
 ghost use Rattle.run.specs.Start.{start_run, started, started_default};
 ghost use Rattle.run.specs.Sound.{Sound, sound};
@@ -18,7 +17,7 @@ ghost use Rattle.run.specs.Testing.{parts_sound};
 ghost use Rattle.run.specs.Request.{served, refused, requested, request_values, tried};
 ghost use Rattle.run.specs.Serving.{RunKeys};
 ghost use Rattle.run.specs.Questions.{refusal, layer_answer, certain_answer, selection_answer};
-ghost use Rattle.run.specs.Stored.{image_run, image_described, restored, restore_refusal, reading_number, store_refusal, image_of, stored, stored_bytes, requested_in};
+ghost use Rattle.run.specs.Stored.{image_run, image_described, restored, restore_refusal, reading_number, store_refusal, stored, stored_bytes, requested_in};
 
 use counts::Counts;
 use image::Parts;
@@ -460,13 +459,14 @@ impl Run {
         Ok(())
     }
 
-    // Writes the run's image at the start of a buffer that has room for it.
-    pub fn write(&self, out: &mut [u8])
-        requires limits { (self.now.pages ≤ 1024) × (self.now.slots ≤ 64) × (image_length self.now.pages self.now.slots ≤ length out.old) }
-        requires narrow { (q : ℕ) → q < self.now.pages → slice_index_or self.now.layer q 0 ≤ 127 }
-        ensures { out.new ≡ put out.old 0 (image_of self.now) }
+    // What the run's image is written from: its numbers, and its tables as they lie in it. It asks for nothing, so that no method of a run
+    // does: room, and layers that fit into a mark, are what the writer asks for, `image::Parts::write`.
+    pub fn parts(&self) -> Parts<'_>
+        ensures sizes { (result.pages ≡ self.now.pages) × (result.slots ≡ self.now.slots) }
+        ensures numbers { (result.served ≡ self.now.counts.served) × (result.hits ≡ self.now.counts.hits) × (result.misses ≡ self.now.counts.misses) × (result.best ≡ self.now.counts.best) }
+        ensures tables { (result.layer.now ≡ self.now.layer) × (result.priority.now ≡ self.now.ranks.priority) × (result.held.now ≡ self.now.held) }
     {
-        let parts = Parts {
+        Parts {
             pages: self.pages,
             slots: self.slots,
             served: self.counts.served,
@@ -476,8 +476,7 @@ impl Run {
             layer: &self.layer,
             priority: &self.ranks.priority,
             held: &self.held,
-        };
-        parts.write(out);
+        }
     }
 
     // Writes the run's image at the start of a buffer. Refusals 1, 16: then the buffer is as it was.
@@ -493,7 +492,7 @@ impl Run {
         }
         let pages = self.pages;
         let slots = self.slots;
-        self.write(out);
+        self.parts().write(out);
         Stored {
             length: 36 + 3 * pages + 2 * slots,
             refusal: None,

@@ -3,8 +3,8 @@ use mathlib.Core.Path.{refl, sym, ap, ◌∙◌}
 use native.Mathlib.Omega.{arith}
 use Rattle.refusals.specs.Numbers.{told}
 use Rattle.refusals.specs.Laws.{told_fine, given_some, number_some}
-use Rattle.run.specs.Stored.{image_of}
-use Rattle.run.proofs.Storing.{store_fits, stored_refused, stored_untouched, stored_told, stored_put, length_is}
+use Rattle.words.specs.Words.{put}
+use Rattle.run.proofs.Storing.{store_fits, stored_refused, stored_untouched, stored_told, stored_put, parts_fit, parts_image, length_is}
 use Rattle.run.proofs.Run.store.Goals as goal
 
 pub returns-in-Err : goal.returns-in-Err
@@ -18,7 +18,8 @@ returns-in-Err c =
 pub write-requires : goal.write-requires
 write-requires c =
     let z = told_fine _ c.in_default.not-Err in
-    let all = store_fits _ _ (sym c.store_refusal.ensures ∙ z) in record { limits = all.0; narrow = all.1 }
+    let run = store_fits _ _ (sym c.store_refusal.ensures ∙ z) in
+    let all = parts_fit c.args.self c.parts.ensures.sizes c.parts.ensures.tables run in record { limits = all.0; narrow = all.1 }
 
 pub overflow_mul-result : goal.overflow_mul-result
 overflow_mul-result c =
@@ -45,5 +46,10 @@ overflow_add-result-2 c =
     omega (arith, f.0)
 
 pub returns : goal.returns
-unfolding image_of
-returns c = record { answer = stored_told _ _ _ c.store_refusal.ensures _ (told_fine _ c.in_default.not-Err) (length_is _ _); buffer = stored_put _ _ _ c.store_refusal.ensures _ (told_fine _ c.in_default.not-Err) c.write.ensures }
+returns c =
+    let p = c.parts.ensures in
+    let image = c.write.ensures ∙ ap (put _ 0) (parts_image _ p.sizes p.tables p.numbers) in
+    record {
+      answer = stored_told _ _ _ c.store_refusal.ensures _ (told_fine _ c.in_default.not-Err) (length_is _ _);
+      buffer = stored_put _ _ _ c.store_refusal.ensures _ (told_fine _ c.in_default.not-Err) image;
+    }
