@@ -24,18 +24,18 @@ module _ (N k : ℕ) (ps : List ℕ) (n : ℕ) (told : n ≡ limits_refusal N k)
     unfolding list_refusal
     refuse_entries h = rw (fits, ne_eqb (length ps) k h)
 
-    module _ (e : length ps ≡ k) where
-      pub refuse_below : below N ps ≡ false → 5 ≡ list_refusal N k ps
-      unfolding list_refusal
-      refuse_below h = rw (fits, eq-eqb (length ps) k e, h)
+module _ (N k : ℕ) (ps : List ℕ) (fits : limits_refusal N k ≡ 0) (e : length ps ≡ k) where
+  pub refuse_below : below N ps ≡ false → list_refusal N k ps ≡ 5
+  unfolding list_refusal
+  refuse_below h = rw (fits, eq-eqb (length ps) k e, h)
 
-      pub refuse_different : below N ps ≡ true → different ps ≡ false → 6 ≡ list_refusal N k ps
-      unfolding list_refusal
-      refuse_different b h = rw (fits, eq-eqb (length ps) k e, b, h)
+  pub refuse_different : below N ps ≡ true → different ps ≡ false → list_refusal N k ps ≡ 6
+  unfolding list_refusal
+  refuse_different b h = rw (fits, eq-eqb (length ps) k e, b, h)
 
-      pub refuse_nothing : below N ps ≡ true → different ps ≡ true → 0 ≡ list_refusal N k ps
-      unfolding list_refusal
-      refuse_nothing b h = rw (fits, eq-eqb (length ps) k e, b, h)
+  pub refuse_nothing : below N ps ≡ true → different ps ≡ true → list_refusal N k ps ≡ 0
+  unfolding list_refusal
+  refuse_nothing b h = rw (fits, eq-eqb (length ps) k e, b, h)
 
 -- what it means that none of them applies
 pub record Listed (N k : ℕ) (ps : List ℕ) : Type 0 where

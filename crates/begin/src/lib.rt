@@ -47,6 +47,7 @@ fn all_different(list: &[u16]) -> bool
 }
 
 // The first refusal of a start that its numbers and its list give: 2 to 6.
+#[tactic(auto, using(crate::proofs::RefusalLaws::refuse_below, crate::proofs::RefusalLaws::refuse_different, crate::proofs::RefusalLaws::refuse_nothing))]
 fn list_refusal(
     pages: usize,
     slots: usize,

@@ -4,8 +4,8 @@ use mathlib.Core.Path.{◌≡◌}
 use Prim.Native.Nat.{ℕ, ◌+◌, ◌-◌, ◌≤◌}
 use native.Mathlib.Nat.{zero-add}
 use native.Mathlib.Omega.{arith}
-use lib.ListN.{length, drop, length-drop}
-use lib.Seq.{take_all, drop-length, drop-drop}
+use lib.ListN.{length, take, drop, length-drop}
+use lib.Seq.{length-take-le, take_all, drop-length, drop-drop}
 use borrow.Rule.Slice.PartMut.{mid_of, put_mid, Post-is}
 use Rattle.words.specs.Words.{put}
 
@@ -13,6 +13,14 @@ use Rattle.words.specs.Words.{put}
 pub copied : (d s t : List ℕ) (n : ℕ) → t ≡ s → length s ≡ n → t ++ drop n d ≡ put d 0 s
 unfolding put
 copied d s t n e l = rw (e, ← l, zero-add (length s))
+
+-- the same of the first n entries of a list that has no more
+pub copied_first : (d s t : List ℕ) (n : ℕ) → t ≡ take n s → length s ≡ n → t ++ drop n d ≡ put d 0 s
+copied_first d s t n e l = copied d s t n (rw (← l, take_all (length s) s (omega arith)) at e) l
+
+-- a slice has as many entries as it takes
+pub taken : (n : ℕ) (s : List ℕ) → n ≤ length s → length (take n s) ≡ n
+taken n s = length-take-le n s
 
 -- what is put in at the start of a part that goes on to the end is put in where the part starts
 pub part_put :

@@ -45,7 +45,7 @@ fn copy_page(part: &mut [u8], bytes: &[u8])
     requires { (64 ≤ length part.old) × (length bytes.now ≡ 64) }
     ensures { part.new ≡ put part.old 0 bytes.now }
 {
-    part[..64].copy_from_slice(bytes);
+    part[..64].copy_from_slice(&bytes[..64]);
 }
 
 // Puts the bytes of a page into its frame. Refusals 1, 8, 10, 11, 12: then the area is as it was.

@@ -38,6 +38,11 @@ told_nothing true true out at = put_none out at
 told_nothing true false out at = refl
 told_nothing false w out at = refl
 
+-- what is told at an offset is told there by any name that the offset has
+pub told_from :
+    (t w : Bool) (out a after : List ℕ) (from next : ℕ) → after ≡ told_bytes t w out from a → from ≡ next → after ≡ told_bytes t w out next a
+told_from t w out a after from next h e = rw e at h
+
 -- The offset in hand, moved by what is left, comes to where the whole ends; what is left, told behind what is told already, makes the
 -- whole.
 pub record Telling (t w : Bool) (before : List ℕ) (at : ℕ) (whole out : List ℕ) (next : ℕ) (left : List ℕ) : Type 0 where

@@ -6,7 +6,7 @@ use Rattle.slots.specs.Laws.{near_entries}
 use Rattle.run.specs.declared.Run.{Run}
 use Rattle.run.proofs.Serving.{slots_hold, slots_byte}
 use Rattle.replay.specs.Laws.{Long, replaying_first, replaying_next, replaying_last, part_asked}
-use Rattle.text.specs.Telling.{begin}
+use Rattle.text.specs.Telling.{begin, told_from}
 use Rattle.replay.specs.Laws.{line_fits, telling_next, telling_last}
 use Rattle.replay.proofs.play.Goals as goal
 use Rattle.replay.proofs.play.Goals.{Start}
@@ -42,14 +42,15 @@ ask-turn-requires g c =
 
 pub tell_line-next-requires : goal.tell_line-next-requires
 tell_line-next-requires g c =
-    rw (c.from.ensures, c.from-in-loop-i.ensures) (line_fits _ _ _ _ _ _ _ _ _ _ _ _ c.loop-i.invariant.1 _ _ (search rules) c.request_at-page.ensures (rw c.loop-i.invariant.2 at c.ask-turn.ensures.answer))
+    let fits = line_fits _ _ _ _ _ _ _ _ _ _ _ _ c.loop-i.invariant.1 _ _ (search rules) c.request_at-page.ensures (rw c.loop-i.invariant.2 at c.ask-turn.ensures.answer) in
+    rw (c.from.ensures, c.from-in-loop-i.ensures) (omega (arith, fits))
 
 pub loop-i-preserved : goal.loop-i-preserved
 loop-i-preserved g c =
     let is = rw c.loop-i.invariant.2 at c.ask-turn.ensures.answer in (
       replaying_next _ _ _ _ _ _ _ _ c.loop-i.invariant.0 _ _ _ _ (search rules) c.request_at-page.ensures is
           (rw c.loop-i.invariant.2 at c.ask-turn.ensures.nears),
-      telling_next _ _ _ _ _ _ _ _ _ _ _ _ c.loop-i.invariant.1 _ _ (search rules) c.request_at-page.ensures is _ _ (rw (c.from.ensures, c.from-in-loop-i.ensures) at c.tell_line-next.ensures.offset) (rw (c.from.ensures, c.from-in-loop-i.ensures) at c.tell_line-next.ensures.text),
+      telling_next _ _ _ _ _ _ _ _ _ _ _ _ c.loop-i.invariant.1 _ _ (search rules) c.request_at-page.ensures is _ _ (omega (arith, rw (c.from.ensures, c.from-in-loop-i.ensures) at c.tell_line-next.ensures.offset)) (told_from _ _ _ _ _ _ _ (rw (c.from.ensures, c.from-in-loop-i.ensures) at c.tell_line-next.ensures.text) (omega arith)),
       c.loop-i.invariant.2,
       c.loop-i.invariant.3,
     )
