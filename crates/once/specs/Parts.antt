@@ -342,6 +342,19 @@ run_parts_once κ a x y s t p q = (
   p.1.1.2 ∙ sym q.1.1.2,
 )
 
+-- And of what is written of them: what a buffer holds once a run's parts are written into it is one, whichever references they were.
+pub run_write_once :
+    (κ : _) (a : _) (x y : _) (s t : _) →
+    run_parts.Post κ a x s →
+    run_parts.Post κ a y t →
+    (m : _) (out : _) (i j : _) (u v : _) →
+    image_write.Post m (x, (out, tt)) i u →
+    image_write.Post m (y, (out, tt)) j v →
+    u.1.0.now ≡ v.1.0.now
+run_write_once κ a x y s t p q m out i j u v f g =
+    let e = run_parts_once κ a x y s t p q in
+    f ∙ rw (e.0, e.1, e.2, e.3, e.4, e.5, e.6, e.7, e.8) (sym g)
+
 pub run_in_image_once : Once run_in_image.Post
 run_in_image_once κ a x y s t p q = p ∙ sym q
 
