@@ -342,7 +342,7 @@ run_parts_once κ a x y s t p q = (
   p.1.1.2 ∙ sym q.1.1.2,
 )
 
--- And of what is written of them: what a buffer holds once a run's parts are written into it is one, whichever references they were.
+-- Nor is there a second image: the parts of two such answers, written into the same buffer, leave the same in it.
 pub run_write_once :
     (κ : _) (a : _) (x y : _) (s t : _) →
     run_parts.Post κ a x s →
